@@ -1,0 +1,4 @@
+pub mod Kinds
+pub mod Systems
+pub mod Rights
+pub mod Entries
