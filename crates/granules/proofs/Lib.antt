@@ -1,0 +1,4 @@
+pub mod Below
+pub mod Climbs
+pub mod Kept
+pub mod Leaves

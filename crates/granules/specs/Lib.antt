@@ -1,0 +1,4 @@
+pub mod Below
+pub mod Paths
+pub mod Tables
+pub mod Trees

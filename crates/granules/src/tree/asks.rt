@@ -1,0 +1,105 @@
+// Questions to a tree. A granule that the tree does not have counts as a child of the root, and is no record.
+ghost use mathlib.Core.Bool.{true, cond};
+ghost use mathlib.Core.List.{[], _∷_};
+ghost use mathlib.Core.Path.{_≡_};
+ghost use Prim.Native.Nat.{ℕ, _≤_, _<_};
+ghost use lib.Dec.{ltb};
+ghost use lib.ListN.{length};
+ghost use Rattle.granules.specs.Paths.{parent, path, beneath, settled, is-record, record-beneath, records-beneath};
+ghost use Rattle.granules.specs.Trees.{table, steps, span};
+use super::Tree;
+use crate::path::Path;
+
+// What a climb that looks for a granule knows where it stands: found, not found at the root, nothing yet elsewhere.
+fn settled(above: usize, granule: usize) -> Option<bool>
+    ensures value { λ r. ⌜ r ≡ settled above granule ⌝ }
+{
+    if granule == above {
+        Some(true)
+    } else if granule == 0 {
+        Some(false)
+    } else {
+        None
+    }
+}
+
+impl Tree {
+    // How many granules there are.
+    pub fn size(&self) -> usize
+        ensures value { λ r. ⌜ r ≡ length (table (now (self .entry))) ⌝ }
+        ensures bound { λ r. ⌜ r ≤ 256 ⌝ }
+    {
+        self.granules
+    }
+
+    pub fn parent(&self, granule: usize) -> usize
+        ensures value { λ r. ⌜ r ≡ parent (table (now (self .entry))) granule ⌝ }
+    {
+        if granule >= self.granules {
+            return 0;
+        }
+        self.parents[granule] as usize
+    }
+
+    pub fn is_record(&self, granule: usize) -> bool
+        ensures value { λ r. ⌜ r ≡ is-record (table (now (self .entry))) granule ⌝ }
+    {
+        granule < self.granules && self.records[granule]
+    }
+
+    // Whether a granule lies beneath another.
+    pub fn is_beneath(&self, above: usize, granule: usize) -> bool
+        ensures value { λ r. ⌜ r ≡ beneath (table (now (self .entry))) above granule ⌝ }
+    {
+        match settled(above, granule) {
+            Some(known) => known,
+            None => self.is_beneath(above, self.parent(granule)),
+        }
+    }
+
+    // The granules from the root down to one; of a granule that the tree does not have, those to the root.
+    pub fn path(&self, granule: usize) -> Path
+        ensures value { λ r. ⌜ steps r ≡ cond (ltb granule (length (table (now (self .entry))))) (path (table (now (self .entry))) granule) (0 ∷ []) ⌝ }
+    {
+        if granule == 0 || granule >= self.granules {
+            return Path::root();
+        }
+        self.path(self.parent(granule)).then(granule as u8)
+    }
+
+    // Where records beneath a granule can lie: from the first number up to the second, which is not among them.
+    pub fn span(&self, granule: usize) -> (usize, usize)
+        ensures value { λ r. ⌜ r ≡ span (table (now (self .entry))) granule ⌝ }
+        ensures all { λ r. ⌜ ((k : ℕ) → record-beneath (table (now (self .entry))) granule k ≡ true → (r .0 ≤ k) × (k < r .1)) ⌝ }
+        ensures bound { λ r. ⌜ r .1 ≤ length (table (now (self .entry))) ⌝ }
+    {
+        if self.is_record(granule) {
+            (granule, granule + 1)
+        } else {
+            (granule, self.granules)
+        }
+    }
+
+    // Whether a granule is a record that lies beneath another.
+    pub fn is_record_beneath(&self, above: usize, granule: usize) -> bool
+        ensures value { λ r. ⌜ r ≡ record-beneath (table (now (self .entry))) above granule ⌝ }
+    {
+        self.is_record(granule) && self.is_beneath(above, granule)
+    }
+
+    // How many records lie beneath a granule: never none, so that a mean can be taken.
+    pub fn records_beneath(&self, granule: usize) -> usize
+        ensures value { λ r. ⌜ r ≡ records-beneath (table (now (self .entry))) granule ⌝ }
+        ensures some { λ r. ⌜ (granule < length (table (now (self .entry))) → 0 < r) ⌝ }
+        ensures bound { λ r. ⌜ r ≤ 256 ⌝ }
+    {
+        let (first, end) = self.span(granule);
+        let mut count = 0;
+        for g in first..end {
+            if self.is_record_beneath(granule, g) {
+                count += 1;
+            }
+        }
+        count
+    }
+}

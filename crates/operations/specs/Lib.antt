@@ -1,0 +1,3 @@
+pub mod Actions
+pub mod Words
+pub mod Alone
