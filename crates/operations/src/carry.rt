@@ -1,7 +1,9 @@
 // One operation carried out over a shelf. A place that the shelf does not have reads as 0 and takes no word.
 ghost use mathlib.Core.Path.{_≡_};
 ghost use Prim.Native.Nat.{_*_, _≤_};
-ghost use lib.ListN.{getD};
+ghost use Rattle.std.specs.Options.{valueOr};
+ghost use Rattle.shelf.specs.Words.{at};
+ghost use Rattle.granules.specs.Paths.{records-beneath};
 ghost use Rattle.granules.specs.Trees.{table};
 ghost use Rattle.operations.specs.Actions.{rounded};
 ghost use Rattle.operations.specs.Words.{sum, answer, after};
@@ -13,13 +15,13 @@ use shelf::Shelf;
 
 // The word at a place.
 fn word<S: Shelf>(shelf: &S, place: usize) -> u32
-    ensures value { λ r. ⌜ r ≡ getD (S·Shelf .words (now (shelf .entry))) place 0 ⌝ }
+    ensures value { λ r. ⌜ r ≡ valueOr (at (S·Shelf .words (now (shelf .entry))) place) 0 ⌝ }
 {
     shelf.get(place).unwrap_or(0)
 }
 
 // The sum of the words of the records beneath a granule.
-pub fn total<S: Shelf>(tree: &Tree, shelf: &S, granule: usize) -> u64
+fn total<S: Shelf>(tree: &Tree, shelf: &S, granule: usize) -> u64
     ensures value { λ r. ⌜ r ≡ sum (table (now (tree .entry))) (S·Shelf .words (now (shelf .entry))) granule ⌝ }
     ensures bound { λ r. ⌜ r ≤ 256 * 4294967295 ⌝ }
 {
@@ -31,6 +33,15 @@ pub fn total<S: Shelf>(tree: &Tree, shelf: &S, granule: usize) -> u64
         }
     }
     sum
+}
+
+// What a read answers: the sum of the words of the records beneath a granule, and how many records there are.
+pub fn figures<S: Shelf>(tree: &Tree, shelf: &S, granule: usize) -> (u64, u32)
+    ensures sum { λ r. ⌜ r .0 ≡ sum (table (now (tree .entry))) (S·Shelf .words (now (shelf .entry))) granule ⌝ }
+    ensures count { λ r. ⌜ r .1 ≡ records-beneath (table (now (tree .entry))) granule ⌝ }
+    ensures bound { λ r. ⌜ r .0 ≤ 256 * 4294967295 ⌝ }
+{
+    (total(tree, shelf, granule), tree.records_beneath(granule) as u32)
 }
 
 // A sum over a count, to the nearest whole number, halves up; over no records it is 0.
@@ -66,12 +77,12 @@ pub fn carry_out<S: Shelf>(tree: &Tree, shelf: &mut S, operation: Operation) -> 
     let granule = operation.granule as usize;
     match operation.action {
         Action::Read => {
-            let sum = total(tree, shelf, granule);
-            Outcome::Figures(sum, tree.records_beneath(granule) as u32)
+            let (sum, count) = figures(tree, shelf, granule);
+            Outcome::Figures(sum, count)
         }
         Action::Mean => {
-            let sum = total(tree, shelf, granule);
-            Outcome::Average(mean(sum, tree.records_beneath(granule) as u32))
+            let (sum, count) = figures(tree, shelf, granule);
+            Outcome::Average(mean(sum, count))
         }
         Action::Set(_) | Action::Add(_) => {
             change(tree, shelf, operation);

@@ -1,7 +1,7 @@
 // Two shelves end to end.
 ghost use mathlib.Core.Path.{_≡_};
 ghost use Prim.Native.Nat.{_+_, _≤_, min};
-ghost use Rattle.shelf.specs.Sides.{side};
+ghost use Rattle.shelf.specs.Sides.{Leads, side};
 ghost use Rattle.shelf.specs.Words.{joined};
 use crate::interface::Shelf;
 
@@ -52,6 +52,15 @@ fn size_of_both(first: usize, second: usize) -> usize
     (first + second).min(LIMIT)
 }
 
+impl<A: Shelf, B: Shelf> JoinedShelf<A, B> {
+    // The side of a place, where a get and a put do what they should do at the place of the two.
+    fn side(&self, place: usize) -> Side
+        ensures { λ r. ⌜ Leads (A·Shelf .words (now (self .entry) .first)) (B·Shelf .words (now (self .entry) .second)) place r ⌝ }
+    {
+        side_of(self.first.size(), place)
+    }
+}
+
 pub impl<A: Shelf, B: Shelf> Shelf for JoinedShelf<A, B> as JoinedShelfShelf {
     ghost words = { λ s. joined (A·Shelf .words (s .first)) (B·Shelf .words (s .second)) };
 
@@ -60,7 +69,7 @@ pub impl<A: Shelf, B: Shelf> Shelf for JoinedShelf<A, B> as JoinedShelfShelf {
     }
 
     fn get(&self, place: usize) -> Option<u32> {
-        match side_of(self.first.size(), place) {
+        match self.side(place) {
             Side::First(at) => self.first.get(at),
             Side::Second(at) => self.second.get(at),
             Side::Outside => None,
@@ -68,7 +77,7 @@ pub impl<A: Shelf, B: Shelf> Shelf for JoinedShelf<A, B> as JoinedShelfShelf {
     }
 
     fn put(&mut self, place: usize, word: u32) -> bool {
-        match side_of(self.first.size(), place) {
+        match self.side(place) {
             Side::First(at) => self.first.put(at, word),
             Side::Second(at) => self.second.put(at, word),
             Side::Outside => false,

@@ -27,10 +27,17 @@ impl PackedShelf {
         Ok(PackedShelf { cells })
     }
 
+    // As many places as cells.
+    fn count(&self) -> usize
+        ensures { λ r. ⌜ r ≡ vec-len (now (self .entry) .cells) ⌝ }
+    {
+        self.cells.len()
+    }
+
     fn has(&self, place: usize) -> bool
         ensures { λ r. ⌜ r ≡ ltb place (vec-len (now (self .entry) .cells)) ⌝ }
     {
-        place < self.cells.len()
+        place < self.count()
     }
 }
 
@@ -57,7 +64,7 @@ pub impl Shelf for PackedShelf as PackedShelfShelf {
     ghost words = { λ s. unpacked (vec-items (s .cells)) };
 
     fn size(&self) -> usize {
-        self.cells.len()
+        self.count()
     }
 
     fn get(&self, place: usize) -> Option<u32> {

@@ -13,8 +13,9 @@ fn a_word_shelf_keeps_words(rt: LibcRuntime) -> Result<(), Fail> {
     check(shelf.put(2, 7))?;
     check_eq(shelf.get(2), Some(7))?;
     check_eq(shelf.get(1), Some(0))?;
-    check(!shelf.put(3, 7))?;
-    check_eq(shelf.get(3), None)
+    check(!shelf.put(3, 9))?;
+    check_eq(shelf.get(3), None)?;
+    check_eq(shelf.get(2), Some(7))
 }
 
 #[test]
@@ -56,17 +57,18 @@ fn a_joined_shelf_goes_on_in_the_second(rt: LibcRuntime) -> Result<(), Fail> {
 
 #[test]
 fn three_shelves_stand_end_to_end(rt: LibcRuntime) -> Result<(), Fail> {
-    let first = PackedShelf::new(rt.alloc(), 1)?;
-    let second = WordShelf::new(rt.alloc(), 2)?;
-    let third = PackedShelf::new(rt.alloc(), 1)?;
-    let mut shelf = JoinedShelf::new(JoinedShelf::new(first, second), third);
+    let first = WordShelf::new(rt.alloc(), 1)?;
+    let second = PackedShelf::new(rt.alloc(), 2)?;
+    let third = WordShelf::new(rt.alloc(), 1)?;
+    let mut shelf = JoinedShelf::new(first, JoinedShelf::new(second, third));
     check_eq(shelf.size(), 4)?;
     for place in 0..4 {
         check(shelf.put(place, 4294967295 - place as u32))?;
     }
+    check(!shelf.put(4, 1))?;
+    check_eq(shelf.get(4), None)?;
     for place in 0..4 {
         check_eq(shelf.get(place), Some(4294967295 - place as u32))?;
     }
-    check(!shelf.put(4, 1))?;
-    check_eq(shelf.get(4), None)
+    Ok(())
 }

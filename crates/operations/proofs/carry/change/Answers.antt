@@ -6,7 +6,7 @@ use lib.ListN.{getD, set}
 use Rattle.granules.specs.Trees.{table}
 use Rattle.operations.specs.Actions.{changed}
 use Rattle.operations.specs.Words.{each-from}
-use Rattle.operations.proofs.Places.{upto, upto-start, upto-end, upto-skip, upto-put}
+use Rattle.operations.proofs.Places.{upto, upto-start, upto-end, upto-skip, upto-put, word-at}
 use Rattle.operations.proofs.carry.change.Needs as need
 use Rattle.operations.proofs.carry.change.Needs.{then-is-record-beneath, else-is-record-beneath}
 
@@ -25,7 +25,7 @@ loop-r-again g c =
     elim (c .if-is-record-beneath .came)
     [ then-is-record-beneath w ↦
         let new : w .changed-new .result ≡ changed (o .action) (getD before r 0) =
-          w .changed-new .ensures .value ∙ ap (changed (o .action)) (w .word .ensures .value)
+          w .changed-new .ensures .value ∙ ap (changed (o .action)) (w .word .ensures .value ∙ word-at before r)
         in
         ap (g .S·Shelf .words) (w .shelf-is)
         ∙ w .put .ensures .after

@@ -9,7 +9,7 @@ use Rattle.granules.specs.Paths.{record-beneath}
 use Rattle.granules.specs.Trees.{table}
 use Rattle.granules.proofs.Below.{sum-none, sum-same, sum-more}
 use Rattle.granules.proofs.Kept.{size}
-use Rattle.operations.proofs.Places.{sum-bound}
+use Rattle.operations.proofs.Places.{sum-bound, word-at}
 use Rattle.operations.proofs.carry.total.Needs as need
 use Rattle.operations.proofs.carry.total.Needs.{then-is-record-beneath, else-is-record-beneath}
 
@@ -43,7 +43,7 @@ loop-r-again g c =
     elim (c .if-is-record-beneath .came)
     [ then-is-record-beneath w ↦
         let e = cond-true (test r) (getD ws r 0) 0 (sym (w .if-is-record-beneath .ensures tt .value)) in
-        omega (arith, w .sum-is, w .word .ensures .value)
+        omega (arith, w .sum-is, w .word .ensures .value, word-at ws r)
     | else-is-record-beneath w ↦
         let e = cond-false (test r) (getD ws r 0) 0 (sym (w .if-is-record-beneath .ensures tt .value)) in
         omega (arith, w .sum-is)
