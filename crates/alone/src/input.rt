@@ -1,8 +1,8 @@
 // Reading the input, entry by entry.
-use entries::cut::cut_at;
-use entries::number::number;
 use entries::Line;
 use entries::Lines;
+use entries::cut::cut_at;
+use entries::number::number;
 use operations::Action;
 use operations::Operation;
 use std::alloc::AllocError;
@@ -99,7 +99,12 @@ fn operation(entry: &[u8], granules: u32) -> Option<Operation> {
 }
 
 // Line 4: the operations.
-fn steps(heap: Global, mut line: Line<'_>, granules: u32, count: u32) -> Result<Vec<Operation>, Denied> {
+fn steps(
+    heap: Global,
+    mut line: Line<'_>,
+    granules: u32,
+    count: u32,
+) -> Result<Vec<Operation>, Denied> {
     let mut operations = Vec::new(heap);
     for i in 0..count {
         let Some(entry) = line.next_entry() else {
@@ -126,5 +131,9 @@ pub fn read(heap: Global, text: &[u8]) -> Result<Work, Denied> {
     if !lines.is_spent() {
         return Err(Denied::Entry(5, 1));
     }
-    Ok(Work { parents, words, operations })
+    Ok(Work {
+        parents,
+        words,
+        operations,
+    })
 }

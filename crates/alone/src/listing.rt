@@ -3,8 +3,8 @@ use crate::input;
 use crate::input::Denied;
 use crate::input::Work;
 use granules::Tree;
-use operations::run_alone;
 use operations::Outcome;
+use operations::run_alone;
 use shelf::JoinedShelf;
 use shelf::PackedShelf;
 use shelf::Shelf;
@@ -64,7 +64,9 @@ fn listed(heap: Global, tree: &Tree, work: &Work) -> Result<String, AllocError> 
 pub fn report(heap: Global, text: &[u8]) -> Result<Report, AllocError> {
     let work = match input::read(heap, text) {
         Ok(work) => work,
-        Err(Denied::Entry(line, entry)) => return Ok(Report::Denied(format!(heap, "bad line {line} entry {entry}\n")?)),
+        Err(Denied::Entry(line, entry)) => return Ok(Report::Denied(
+            format!(heap, "bad line {line} entry {entry}\n")?,
+        )),
         Err(Denied::Memory) => return Err(AllocError),
     };
     match Tree::new(work.parents.as_slice(), work.words.len()) {

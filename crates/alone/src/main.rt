@@ -4,7 +4,6 @@
 // the operations. Files: `input` (reading it), `listing` (running it and writing the answers down).
 mod input;
 mod listing;
-
 #[cfg(test)]
 mod tests;
 

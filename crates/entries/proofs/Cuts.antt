@@ -21,13 +21,13 @@ Uncut at text n = (k : ℕ) → k < n → getD text k 0 ≡ at → ⊥
 -- what is then known at n: that the text is cut there, or at its end that it is not cut
 abbrev pub Ways : ℕ → List ℕ → ℕ → Type 0
 Ways at text n =
-    ( n < length text → getD text n 0 ≡ at
-      → (between 0 n text ≡ head at text) × (Some (between (n + 1) (length text) text) ≡ tail at text) )
+    (n < length text → getD text n 0 ≡ at
+    → (between 0 n text ≡ head at text) × (Some (between (n + 1) (length text) text) ≡ tail at text))
     × (length text ≤ n → (text ≡ head at text) × (None ≡ tail at text))
 
 cut-here :
-  (at : ℕ) (text : List ℕ) (n : ℕ) → Uncut at text n → n < length text → getD text n 0 ≡ at
-  → (take n text ≡ head at text) × (Some (drop (suc n) text) ≡ tail at text)
+    (at : ℕ) (text : List ℕ) (n : ℕ) → Uncut at text n → n < length text → getD text n 0 ≡ at
+    → (take n text ≡ head at text) × (Some (drop (suc n) text) ≡ tail at text)
 cut-here at [] n u h e = absurd (omega arith)
 cut-here at (b ∷ bs) zero u h e = let t = eq-eqb b at e in rw (t, head, tail) (refl, refl)
 cut-here at (b ∷ bs) (suc n) u h e =
@@ -43,7 +43,7 @@ uncut at (b ∷ bs) u =
     rw (t, head, tail) (ap (λ (xs : List ℕ). b ∷ xs) (r .0), r .1)
 
 pub ways : (at : ℕ) (text : List ℕ) (n : ℕ) → Uncut at text n → Ways at text n
-ways at text n u =
-    ( λ h e. let r = cut-here at text n u h e in (search needs, rw take-rest (rw add-one (r .1)))
-    , λ h. uncut at text (λ k l. u k (omega arith))
-    )
+ways at text n u = (
+  λ h e. let r = cut-here at text n u h e in (search needs, rw take-rest (rw add-one (r .1))),
+  λ h. uncut at text (λ k l. u k (omega arith)),
+)

@@ -1,10 +1,9 @@
 -- How a number is written: in digits, with no leading zero save 0 itself, at most 4294967295.
-use mathlib.Core.Bool.{Bool, true, false, not, _&&_, _||_, cond}
+use mathlib.Core.Bool.{Bool, true, false, not, _&&_, cond}
 use mathlib.Core.List.{List, [], _∷_}
 use mathlib.Core.Path.{_≡_}
 use Prim.Native.Nat.{ℕ, _+_, _-_, _*_, _<_}
 use lib.Dec.{eqb, ltb, leb}
-use lib.ListN.{length, getD}
 use Rattle.std.specs.Options.{Cases}
 use Rattle.std.specs.Written.{decimal}
 use Rattle.std.specs.declared.option.Option.{Option}
@@ -28,6 +27,10 @@ led (b ∷ c ∷ bs) = not (eqb b 48)
 abbrev pub read-on : ℕ → List ℕ → ℕ
 read-on n [] = n
 read-on n (b ∷ bs) = read-on (n * 10 + (b - 48)) bs
+
+-- The number n with one more digit, if the byte is one and the number still fits.
+abbrev pub grown : ℕ → ℕ → Option ℕ
+grown n b = cond (digit b && ltb (n * 10 + (b - 48)) 4294967296) (Some (n * 10 + (b - 48))) None
 
 -- The number that an entry stands for, if it is one.
 abbrev pub numeral : List ℕ → Option ℕ

@@ -8,3 +8,6 @@ pub mod number;
 
 pub use line::Line;
 pub use line::Lines;
+
+#[cfg(test)]
+mod tests;

@@ -42,7 +42,10 @@ impl<'a> Lines<'a> {
             }
             (bytes, None) => {
                 self.rest = &[];
-                Line { rest: Some(bytes), whole: false }
+                Line {
+                    rest: Some(bytes),
+                    whole: false,
+                }
             }
         }
     }

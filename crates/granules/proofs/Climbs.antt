@@ -27,20 +27,20 @@ right-falls g p h t =
 
 pub falls : (ps : List ℕ) → rooted ps ≡ true → Falls ps
 falls ps t g h =
-    elim (cases-lt g (length ps))
-    [ inl l ↦ right-falls g (parent ps g) h (each-at (length ps) (λ x. right-for x (parent ps x)) t g l)
-    | inr l ↦ let e = getD-past ps g 0 l in omega arith
+    elim (cases-lt g (length ps)) [
+      | inl l ↦ right-falls g (parent ps g) h (each-at (length ps) (λ x. right-for x (parent ps x)) t g l)
+      | inr l ↦ let e = getD-past ps g 0 l in omega arith
     ]
 
 -- no parent is larger than any granule
 pub parent-small : (ps : List ℕ) → rooted ps ≡ true → (g : ℕ) → g < length ps → parent ps g < length ps
 parent-small ps t g l =
-    elim (cases-lt 0 g)
-    [ inl h ↦ let f = falls ps t g h in omega arith
-    | inr h ↦
-        let zero-is : eqb g 0 ≡ true = eq-eqb g 0 (omega arith) in
-        let e = eqb-true (parent ps g) 0 (rw (zero-is, right-for) at (each-at (length ps) (λ x. right-for x (parent ps x)) t g l)) in
-        omega arith
+    elim (cases-lt 0 g) [
+      | inl h ↦ let f = falls ps t g h in omega arith
+      | inr h ↦
+          let zero-is : eqb g 0 ≡ true = eq-eqb g 0 (omega arith) in
+          let e = eqb-true (parent ps g) 0 (rw (zero-is, right-for) at (each-at (length ps) (λ x. right-for x (parent ps x)) t g l)) in
+          omega arith
     ]
 
 -- any bound that is large enough gives the same path
@@ -82,9 +82,9 @@ pub path-long : (ps : List ℕ) → Falls ps → (g : ℕ) → length (path ps g
 path-long ps f =
     climb ps f (λ g. length (path ps g) ≤ g + 1) (rw path-root (omega arith))
     (λ g h ih.
-        let l = f g h in
-        let e = path-more ps f g h in
-        omega arith)
+    let l = f g h in
+    let e = path-more ps f g h in
+    omega arith)
 
 -- in a shallow table a path that goes on has room for one more
 pub path-room : (ps : List ℕ) → Falls ps → shallow ps ≡ true → (g : ℕ) → 0 < g → g < length ps → length (path ps (parent ps g)) < 8
@@ -120,7 +120,7 @@ beneath-end ps above g n e =
     ap (beneath ps above) e ∙ beneath-root ps above ∙ ne-eqb above 0 (λ (z : above ≡ 0). n (e ∙ sym z))
 
 pub beneath-up :
-  (ps : List ℕ) → Falls ps → (above g : ℕ) → (g ≡ above → ⊥) → 0 < g → beneath ps above g ≡ beneath ps above (parent ps g)
+    (ps : List ℕ) → Falls ps → (above g : ℕ) → (g ≡ above → ⊥) → 0 < g → beneath ps above g ≡ beneath ps above (parent ps g)
 beneath-up ps f above g n h =
     beneath-step ps f above g h
     ∙ ap (λ (b : Bool). beneath ps above (parent ps g) || b) (ne-eqb above g (λ (z : above ≡ g). n (sym z)))
@@ -132,44 +132,45 @@ beneath-up ps f above g n h =
 
 pub settled-found : (ps : List ℕ) → Falls ps → (above g : ℕ) (b : Bool) → settled above g ≡ Some b → b ≡ beneath ps above g
 settled-found ps f above g b e =
-    elim (cases-eq g above)
-    [ inl here ↦
-        let t = eq-eqb g above here in
-        let s : Some b ≡ Some true = sym e ∙ rw (t, settled) in
-        let v : b ≡ true = cc in
-        v ∙ sym (beneath-here ps f above g here)
-    | inr other ↦
-        let t = ne-eqb g above other in
-        elim (cases-eq g 0)
-        [ inl root ↦
-            let z = eq-eqb g 0 root in
-            let s : Some b ≡ Some false = sym e ∙ rw (t, z, settled) in
-            let v : b ≡ false = cc in
-            v ∙ sym (beneath-end ps above g other root)
-        | inr up ↦
-            let z = ne-eqb g 0 up in
-            let s : Some b ≡ None = sym e ∙ rw (t, z, settled) in
-            let v : b ≡ beneath ps above g = cc in
-            v
-        ]
+    elim (cases-eq g above) [
+      | inl here ↦
+          let t = eq-eqb g above here in
+          let s : Some b ≡ Some true = sym e ∙ rw (t, settled) in
+          let v : b ≡ true = cc in
+          v ∙ sym (beneath-here ps f above g here)
+      | inr other ↦
+          let t = ne-eqb g above other in
+          elim (cases-eq g 0) [
+            | inl root ↦
+                let z = eq-eqb g 0 root in
+                let s : Some b ≡ Some false = sym e ∙ rw (t, z, settled) in
+                let v : b ≡ false = cc in
+                v ∙ sym (beneath-end ps above g other root)
+            | inr up ↦
+                let z = ne-eqb g 0 up in
+                let s : Some b ≡ None = sym e ∙ rw (t, z, settled) in
+                let v : b ≡ beneath ps above g = cc in
+                v
+          ]
     ]
 
 pub settled-open : (above g : ℕ) → settled above g ≡ None → (0 < g) × (g ≡ above → ⊥)
 settled-open above g e =
-    let none : (b : Bool) → Some b ≡ None → ⊥ = λ b s. let z : _≡_ {A = ℕ} 0 1 = cc in omega arith in
-    ( elim (cases-eq g 0)
-      [ inl root ↦
-          elim (cases-eq g above)
-          [ inl here ↦ absurd (none true (sym (settled-here here) ∙ e))
-          | inr other ↦ absurd (none false (sym (settled-root other root) ∙ e))
-          ]
-      | inr up ↦ omega arith
-      ]
-    , λ here. none true (sym (settled-here here) ∙ e)
+    let none : (b : Bool) → Some b ≡ None → ⊥ = λ b s. let z : _≡_ {A = ℕ} 0 1 = cc in omega arith in (
+      elim (cases-eq g 0) [
+        | inl root ↦
+            elim (cases-eq g above) [
+              | inl here ↦ absurd (none true (sym (settled-here here) ∙ e))
+              | inr other ↦ absurd (none false (sym (settled-root other root) ∙ e))
+            ]
+        | inr up ↦ omega arith
+      ],
+      λ here. none true (sym (settled-here here) ∙ e),
     )
   where
     settled-here : g ≡ above → settled above g ≡ Some true
     settled-here here = let t = eq-eqb g above here in rw (t, settled)
+
     settled-root : (g ≡ above → ⊥) → g ≡ 0 → settled above g ≡ Some false
     settled-root other root = let t = ne-eqb g above other in let z = eq-eqb g 0 root in rw (t, z, settled)
 
@@ -179,19 +180,19 @@ beneath-le ps f g =
     climb ps f (λ r. beneath ps g r ≡ true → g ≤ r)
     (λ t. let e = eqb-true g 0 (sym (beneath-root ps g) ∙ t) in omega arith)
     (λ r h ih t.
-        let l = f r h in
-        elim (or-cases (beneath ps g (parent ps r)) (eqb g r) (sym (beneath-step ps f g r h) ∙ t))
-        [ inl a ↦ let i = ih a in omega arith | inr e ↦ let i = eqb-true g r e in omega arith ])
+    let l = f r h in
+    elim (or-cases (beneath ps g (parent ps r)) (eqb g r) (sym (beneath-step ps f g r h) ∙ t))
+    [ inl a ↦ let i = ih a in omega arith | inr e ↦ let i = eqb-true g r e in omega arith ])
 
 pub beneath-trans : (ps : List ℕ) → Falls ps → (g h r : ℕ) → beneath ps g h ≡ true → beneath ps h r ≡ true → beneath ps g r ≡ true
 beneath-trans ps f g h r a =
     climb ps f (λ r. beneath ps h r ≡ true → beneath ps g r ≡ true)
     (λ t. subst (λ (x : ℕ). beneath ps g x ≡ true) (eqb-true h 0 (sym (beneath-root ps h) ∙ t)) a)
     (λ r l ih t.
-        elim (or-cases (beneath ps h (parent ps r)) (eqb h r) (sym (beneath-step ps f h r l) ∙ t))
-        [ inl b ↦ beneath-step ps f g r l ∙ or-left (beneath ps g (parent ps r)) (eqb g r) (ih b)
-        | inr e ↦ subst (λ (x : ℕ). beneath ps g x ≡ true) (eqb-true h r e) a
-        ])
+    elim (or-cases (beneath ps h (parent ps r)) (eqb h r) (sym (beneath-step ps f h r l) ∙ t)) [
+      | inl b ↦ beneath-step ps f g r l ∙ or-left (beneath ps g (parent ps r)) (eqb g r) (ih b)
+      | inr e ↦ subst (λ (x : ℕ). beneath ps g x ≡ true) (eqb-true h r e) a
+    ])
     r
 
 -- a granule with a parent is its child
@@ -216,11 +217,11 @@ record-alone ps f g r t =
     climb ps f (λ r. r < length ps → beneath ps g r ≡ true → r ≡ g)
     (λ l b. sym (eqb-true g 0 (sym (beneath-root ps g) ∙ b)))
     (λ r h ih l b.
-        let less = f r h in
-        elim (or-cases (beneath ps g (parent ps r)) (eqb g r) (sym (beneath-step ps f g r h) ∙ b))
-        [ inl a ↦ absurd (both-ways (has-child ps g) (record-parts ps g t .1) (child ps g r l h (ih (omega arith) a)))
-        | inr e ↦ sym (eqb-true g r e)
-        ])
+    let less = f r h in
+    elim (or-cases (beneath ps g (parent ps r)) (eqb g r) (sym (beneath-step ps f g r h) ∙ b)) [
+      | inl a ↦ absurd (both-ways (has-child ps g) (record-parts ps g t .1) (child ps g r l h (ih (omega arith) a)))
+      | inr e ↦ sym (eqb-true g r e)
+    ])
     r
 
 pub record-outside : (ps : List ℕ) (g : ℕ) → length ps ≤ g → is-record ps g ≡ false
@@ -229,7 +230,7 @@ record-outside ps g l = and-left (ltb g (length ps)) (not (has-child ps g)) (le-
 
 -- where records beneath a granule lie
 pub record-span :
-  (ps : List ℕ) → Falls ps → (g : ℕ) → is-record ps g ≡ true → (k : ℕ) → record-beneath ps g k ≡ true → (g ≤ k) × (k < g + 1)
+    (ps : List ℕ) → Falls ps → (g : ℕ) → is-record ps g ≡ true → (k : ℕ) → record-beneath ps g k ≡ true → (g ≤ k) × (k < g + 1)
 record-span ps f g t k b =
     let p = and-parts (is-record ps k) (beneath ps g k) b in
     let e = record-alone ps f g k t (record-parts ps k (p .0) .0) (p .1) in
@@ -253,26 +254,26 @@ some-record ps f g l = go (length ps) g l (omega arith)
     go : (n g : ℕ) → g < length ps → length ps ≤ n + g → (r : ℕ) × (r < length ps) × (record-beneath ps g r ≡ true)
     go zero g l h = absurd (omega arith)
     go (suc n) g l h =
-        elim (cases-bool (has-child ps g))
-        [ inl t ↦
-            let c = some-at (length ps) (λ x. ltb 0 x && eqb (parent ps x) g) t in
-            let k = c .0 in
-            let p = and-parts (ltb 0 k) (eqb (parent ps k) g) (c .2) in
-            let pos = ltb-true 0 k (p .0) in
-            let par = eqb-true (parent ps k) g (p .1) in
-            let less = f k pos in
-            let rest = go n k (c .1) (omega arith) in
-            let parts = and-parts (is-record ps (rest .0)) (beneath ps k (rest .0)) (rest .2) in
-            let up : beneath ps g k ≡ true =
+        elim (cases-bool (has-child ps g)) [
+          | inl t ↦
+              let c = some-at (length ps) (λ x. ltb 0 x && eqb (parent ps x) g) t in
+              let k = c .0 in
+              let p = and-parts (ltb 0 k) (eqb (parent ps k) g) (c .2) in
+              let pos = ltb-true 0 k (p .0) in
+              let par = eqb-true (parent ps k) g (p .1) in
+              let less = f k pos in
+              let rest = go n k (c .1) (omega arith) in
+              let parts = and-parts (is-record ps (rest .0)) (beneath ps k (rest .0)) (rest .2) in
+              let up : beneath ps g k ≡ true =
               beneath-step ps f g k pos
               ∙ or-left (beneath ps g (parent ps k)) (eqb g k) (subst (λ (x : ℕ). beneath ps g x ≡ true) (sym par) (beneath-self ps f g))
-            in
-            ( rest .0
-            , rest .1
-            , and-from (is-record ps (rest .0)) (beneath ps g (rest .0)) (parts .0)
-              (beneath-trans ps f g k (rest .0) up (parts .1))
-            )
-        | inr t ↦ (g, l, and-from (is-record ps g) (beneath ps g g) (record-from ps g l t) (beneath-self ps f g))
+              in (
+                rest .0,
+                rest .1,
+                and-from (is-record ps (rest .0)) (beneath ps g (rest .0)) (parts .0)
+                    (beneath-trans ps f g k (rest .0) up (parts .1)),
+              )
+          | inr t ↦ (g, l, and-from (is-record ps g) (beneath ps g g) (record-from ps g l t) (beneath-self ps f g))
         ]
 
 pub records-some : (ps : List ℕ) → Falls ps → (g : ℕ) → g < length ps → 0 < records-beneath ps g

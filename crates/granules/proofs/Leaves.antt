@@ -35,21 +35,21 @@ marked-root ps free i z m k h =
     m k h ∙ ap not (sym (skip ps i k (and-left (ltb 0 i) (eqb (parent ps i) k) (le-ltb 0 i z))))
 
 pub marked-more :
-  (ps : List ℕ) (free : List Bool) (i : ℕ) → 0 < i → length free ≡ 256 → Marked ps free i → Marked ps (set free (parent ps i) false) (i + 1)
+    (ps : List ℕ) (free : List Bool) (i : ℕ) → 0 < i → length free ≡ 256 → Marked ps free i → Marked ps (set free (parent ps i) false) (i + 1)
 marked-more ps free i l full m k h =
-    elim (cases-eq k (parent ps i))
-    [ inl e ↦
-        let found : child-of ps k i ≡ true = and-from (ltb 0 i) (eqb (parent ps i) k) (lt-ltb 0 i l) (eq-eqb (parent ps i) k (sym e)) in
-        let all : some-below (i + 1) (child-of ps k) ≡ true =
+    elim (cases-eq k (parent ps i)) [
+      | inl e ↦
+          let found : child-of ps k i ≡ true = and-from (ltb 0 i) (eqb (parent ps i) k) (lt-ltb 0 i l) (eq-eqb (parent ps i) k (sym e)) in
+          let all : some-below (i + 1) (child-of ps k) ≡ true =
           some-more i (child-of ps k) ∙ or-right (some-below i (child-of ps k)) (child-of ps k i) found
-        in
-        ap (λ (x : ℕ). getD (set free (parent ps i) false) x false) e
-        ∙ getD-set-same free (parent ps i) false false (omega arith)
-        ∙ ap not (sym all)
-    | inr e ↦
-        getD-set-other free (parent ps i) k false false e
-        ∙ m k h
-        ∙ ap not (sym (skip ps i k (and-right (ltb 0 i) (eqb (parent ps i) k) (ne-eqb (parent ps i) k (λ (z : parent ps i ≡ k). e (sym z))))))
+          in
+          ap (λ (x : ℕ). getD (set free (parent ps i) false) x false) e
+          ∙ getD-set-same free (parent ps i) false false (omega arith)
+          ∙ ap not (sym all)
+      | inr e ↦
+          getD-set-other free (parent ps i) k false false e
+          ∙ m k h
+          ∙ ap not (sym (skip ps i k (and-right (ltb 0 i) (eqb (parent ps i) k) (ne-eqb (parent ps i) k (λ (z : parent ps i ≡ k). e (sym z))))))
     ]
 
 -- when all are marked off, the granules that are left are the records

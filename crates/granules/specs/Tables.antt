@@ -36,7 +36,7 @@ shallow parents = each-below (length parents) (λ g. leb (length (path parents g
 -- What is wrong with a table that comes with so many first words, if anything is: the first of the three that applies.
 abbrev pub fault : List ℕ → ℕ → Option Unfit
 fault parents words =
-    elim (sized parents words)
-    [ false ↦ Some Lengths
-    | true ↦ elim (rooted parents) [ false ↦ Some Parent | true ↦ elim (shallow parents) [ false ↦ Some Path | true ↦ None ] ]
+    elim (sized parents words) [
+      | false ↦ Some Lengths
+      | true ↦ elim (rooted parents) [ false ↦ Some Parent | true ↦ elim (shallow parents) [ false ↦ Some Path | true ↦ None ] ]
     ]

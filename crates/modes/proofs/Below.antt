@@ -14,7 +14,7 @@ pub at : (n : ℕ) (f : ℕ → Bool) → below n f ≡ true → (k : ℕ) → k
 at zero f t k h = absurd (omega arith)
 at (suc n) f t k h =
     let both = and-parts (f n) (below n f) t in
-    elim (cases-eq k n)
-    [ inl e ↦ subst (λ (m : ℕ). f m ≡ true) (sym e) (both .0)
-    | inr e ↦ at n f (both .1) k (omega arith)
+    elim (cases-eq k n) [
+      | inl e ↦ subst (λ (m : ℕ). f m ≡ true) (sym e) (both .0)
+      | inr e ↦ at n f (both .1) k (omega arith)
     ]

@@ -34,8 +34,8 @@ within : (a b : ℕ) → a < 6 → b < 6 → Agree a b
 within a b la lb =
     let t : agree a b ≡ true = at 6 (agree a) (at 6 (λ x. below 6 (agree x)) refl a la) b lb in
     let p =
-      and-parts (alike (system gray .stands a b) (system counting .stands (in-counting a) (in-counting b)))
-      (eqb (in-counting (system gray .join a b)) (system counting .join (in-counting a) (in-counting b))) t
+    and-parts (alike (system gray .stands a b) (system counting .stands (in-counting a) (in-counting b)))
+    (eqb (in-counting (system gray .join a b)) (system counting .join (in-counting a) (in-counting b))) t
     in
     (alike-same _ _ (p .0), eqb-true _ _ (p .1))
 
@@ -49,9 +49,9 @@ gray-within-counting a b =
     let la : a′ < 6 = omega arith in
     let lb : b′ < 6 = omega arith in
     let P : ℕ → ℕ → Type 0 =
-      λ x y.
-        (stand (at-place x) (at-place y) ≡ stand (mode counting (code counting (at-place x))) (mode counting (code counting (at-place y))))
-        × (in-counting (code gray (joined (at-place x) (at-place y)))
-          ≡ code counting (joined (mode counting (code counting (at-place x))) (mode counting (code counting (at-place y)))))
+    λ x y.
+    (stand (at-place x) (at-place y) ≡ stand (mode counting (code counting (at-place x))) (mode counting (code counting (at-place y))))
+    × (in-counting (code gray (joined (at-place x) (at-place y)))
+    ≡ code counting (joined (mode counting (code counting (at-place x))) (mode counting (code counting (at-place y)))))
     in
     subst₂ P ea eb (within a′ b′ la lb)

@@ -75,7 +75,7 @@ record Passed (s : System) : Type 0 where
   stands-comm : (a b : ℕ) → a < s .count → b < s .count → s .stands a b ≡ s .stands b a
   join-assoc : (a b c : ℕ) → a < s .count → b < s .count → c < s .count → s .join (s .join a b) c ≡ s .join a (s .join b c)
   stands-join :
-    (a b c : ℕ) → a < s .count → b < s .count → c < s .count → s .stands a (s .join b c) ≡ (s .stands a b && s .stands a c)
+      (a b c : ℕ) → a < s .count → b < s .count → c < s .count → s .stands a (s .join b c) ≡ (s .stands a b && s .stands a c)
   kind-each : (k : Kind) → kind s k ≡ true
   kinds-each : (k l : Kind) → kinds s k l ≡ true
 
@@ -90,26 +90,26 @@ passed s t =
     let k = and-parts _ _ (r .1) in
     let ones : (a : ℕ) → a < n → one s a ≡ true = at n (one s) (small .0) in
     let twos : (a b : ℕ) → a < n → b < n → two s a b ≡ true =
-      λ a b la lb. at n (two s a) (at n (λ x. below n (two s x)) (small .1) a la) b lb
+    λ a b la lb. at n (two s a) (at n (λ x. below n (two s x)) (small .1) a la) b lb
     in
     let threes : (a b c : ℕ) → a < n → b < n → c < n → three s a b c ≡ true =
-      λ a b c la lb lc.
-        at n (three s a b)
-        (at n (λ y. below n (three s a y)) (at n (λ x. below n (λ y. below n (three s x y))) (r .0) a la) b lb) c lc
+    λ a b c la lb lc.
+    at n (three s a b)
+    (at n (λ y. below n (three s a y)) (at n (λ x. below n (λ y. below n (three s x y))) (r .0) a la) b lb) c lc
     in
-    record
-    { some-modes = ltb-true 0 n (size .0)
-    ; few-modes = leb-true n 16 (size .1)
-    ; join-same = λ a h. eqb-true _ _ (and-parts (eqb (s .join a a) a) _ (ones a h) .0)
-    ; join-none = λ a h. eqb-true _ _ (and-parts (eqb (s .join 0 a) a) (s .stands 0 a) (and-parts (eqb (s .join a a) a) _ (ones a h) .1) .0)
-    ; stands-none = λ a h. and-parts (eqb (s .join 0 a) a) (s .stands 0 a) (and-parts (eqb (s .join a a) a) _ (ones a h) .1) .1
-    ; join-within = λ a b la lb. ltb-true _ _ (and-parts (ltb (s .join a b) n) _ (twos a b la lb) .0)
-    ; join-comm = λ a b la lb. eqb-true _ _ (and-parts (eqb (s .join a b) (s .join b a)) _ (and-parts (ltb (s .join a b) n) _ (twos a b la lb) .1) .0)
-    ; stands-comm = λ a b la lb. alike-same _ _ (and-parts (eqb (s .join a b) (s .join b a)) _ (and-parts (ltb (s .join a b) n) _ (twos a b la lb) .1) .1)
-    ; join-assoc = λ a b c la lb lc. eqb-true _ _ (and-parts (eqb (s .join (s .join a b) c) (s .join a (s .join b c))) _ (threes a b c la lb lc) .0)
-    ; stands-join = λ a b c la lb lc. alike-same _ _ (and-parts (eqb (s .join (s .join a b) c) (s .join a (s .join b c))) _ (threes a b c la lb lc) .1)
-    ; kind-each = at-kind (kind s) (k .0)
-    ; kinds-each = λ k′ l. at-kind (kinds s k′) (at-kind (λ x. each-kind (kinds s x)) (k .1) k′) l
+    record {
+      some-modes = ltb-true 0 n (size .0);
+      few-modes = leb-true n 16 (size .1);
+      join-same = λ a h. eqb-true _ _ (and-parts (eqb (s .join a a) a) _ (ones a h) .0);
+      join-none = λ a h. eqb-true _ _ (and-parts (eqb (s .join 0 a) a) (s .stands 0 a) (and-parts (eqb (s .join a a) a) _ (ones a h) .1) .0);
+      stands-none = λ a h. and-parts (eqb (s .join 0 a) a) (s .stands 0 a) (and-parts (eqb (s .join a a) a) _ (ones a h) .1) .1;
+      join-within = λ a b la lb. ltb-true _ _ (and-parts (ltb (s .join a b) n) _ (twos a b la lb) .0);
+      join-comm = λ a b la lb. eqb-true _ _ (and-parts (eqb (s .join a b) (s .join b a)) _ (and-parts (ltb (s .join a b) n) _ (twos a b la lb) .1) .0);
+      stands-comm = λ a b la lb. alike-same _ _ (and-parts (eqb (s .join a b) (s .join b a)) _ (and-parts (ltb (s .join a b) n) _ (twos a b la lb) .1) .1);
+      join-assoc = λ a b c la lb lc. eqb-true _ _ (and-parts (eqb (s .join (s .join a b) c) (s .join a (s .join b c))) _ (threes a b c la lb lc) .0);
+      stands-join = λ a b c la lb lc. alike-same _ _ (and-parts (eqb (s .join (s .join a b) c) (s .join a (s .join b c))) _ (threes a b c la lb lc) .1);
+      kind-each = at-kind (kind s) (k .0);
+      kinds-each = λ k′ l. at-kind (kinds s k′) (at-kind (λ x. each-kind (kinds s x)) (k .1) k′) l;
     }
 
 -- A system that reads codes beyond the last as the last, and passes the test, keeps the laws.
@@ -128,25 +128,25 @@ module _ (s : System) (ok : Passed s)
 
   join-assoc : (a b c : ℕ) → s .join (s .join a b) c ≡ s .join a (s .join b c)
   join-assoc a b c =
-      cc
-      ( ok .join-assoc _ _ _ (within a) (within b) (within c)
-      , join-clips a b
-      , join-clips b c
-      , join-clips (s .join a b) c
-      , join-clips a (s .join b c)
-      , joined-read a b
-      , joined-read b c
+      cc (
+        ok .join-assoc _ _ _ (within a) (within b) (within c),
+        join-clips a b,
+        join-clips b c,
+        join-clips (s .join a b) c,
+        join-clips a (s .join b c),
+        joined-read a b,
+        joined-read b c,
       )
 
   stands-join : (a b c : ℕ) → s .stands a (s .join b c) ≡ (s .stands a b && s .stands a c)
   stands-join a b c =
-      cc
-      ( ok .stands-join _ _ _ (within a) (within b) (within c)
-      , join-clips b c
-      , stands-clips a (s .join b c)
-      , joined-read b c
-      , stands-clips a b
-      , stands-clips a c
+      cc (
+        ok .stands-join _ _ _ (within a) (within b) (within c),
+        join-clips b c,
+        stands-clips a (s .join b c),
+        joined-read b c,
+        stands-clips a b,
+        stands-clips a c,
       )
 
   stands-none : (a : ℕ) → s .stands 0 a ≡ true
@@ -156,23 +156,23 @@ module _ (s : System) (ok : Passed s)
 
   keeps : Lawful s
   keeps =
-      record
-      { some-modes = ok .some-modes
-      ; few-modes = ok .few-modes
-      ; join-clips = join-clips
-      ; stands-clips = stands-clips
-      ; join-within = join-within
-      ; full-within = λ k. ltb-true _ _ (and-parts (ltb (s .full k) (s .count)) _ (ok .kind-each k) .0)
-      ; intent-within = λ k. ltb-true _ _ (and-parts (ltb (s .full k) (s .count)) _ (ok .kind-each k) .1)
-      ; join-assoc = join-assoc
-      ; join-comm = λ a b. join-clips a b ∙ ok .join-comm _ _ (within a) (within b) ∙ sym (join-clips b a)
-      ; join-same = ok .join-same
-      ; join-none = ok .join-none
-      ; stands-comm = λ a b. stands-clips a b ∙ ok .stands-comm _ _ (within a) (within b) ∙ sym (stands-clips b a)
-      ; stands-none = stands-none
-      ; stands-join = stands-join
-      ; full-full = λ k l e. apart (commutes k l) _ _ (ok .kinds-each k l) e .0
-      ; full-intent = λ k l e. apart (commutes k l) (s .stands (s .full k) (s .full l)) _ (ok .kinds-each k l) e .1
+      record {
+        some-modes = ok .some-modes;
+        few-modes = ok .few-modes;
+        join-clips = join-clips;
+        stands-clips = stands-clips;
+        join-within = join-within;
+        full-within = λ k. ltb-true _ _ (and-parts (ltb (s .full k) (s .count)) _ (ok .kind-each k) .0);
+        intent-within = λ k. ltb-true _ _ (and-parts (ltb (s .full k) (s .count)) _ (ok .kind-each k) .1);
+        join-assoc = join-assoc;
+        join-comm = λ a b. join-clips a b ∙ ok .join-comm _ _ (within a) (within b) ∙ sym (join-clips b a);
+        join-same = ok .join-same;
+        join-none = ok .join-none;
+        stands-comm = λ a b. stands-clips a b ∙ ok .stands-comm _ _ (within a) (within b) ∙ sym (stands-clips b a);
+        stands-none = stands-none;
+        stands-join = stands-join;
+        full-full = λ k l e. apart (commutes k l) _ _ (ok .kinds-each k l) e .0;
+        full-intent = λ k l e. apart (commutes k l) (s .stands (s .full k) (s .full l)) _ (ok .kinds-each k l) e .1;
       }
 
 clipped-twice : (n a : ℕ) → clipped n a ≡ clipped n (clipped n a)

@@ -66,31 +66,31 @@ pub record Mode : Type 0 where
   pub may : Right
 
 -- The nine modes in which what is had is also allowed below.
-abbrev pub NL : Mode -- no lock
+abbrev pub NL : Mode  -- no lock
 NL = record { has = nothing; may = nothing }
 
-abbrev pub IS : Mode -- intent to read
+abbrev pub IS : Mode  -- intent to read
 IS = record { has = nothing; may = reads }
 
-abbrev pub IN : Mode -- intent to add
+abbrev pub IN : Mode  -- intent to add
 IN = record { has = nothing; may = adds }
 
-abbrev pub IX : Mode -- intent to do anything
+abbrev pub IX : Mode  -- intent to do anything
 IX = record { has = nothing; may = everything }
 
-abbrev pub S : Mode -- shared: reads all
+abbrev pub S : Mode  -- shared: reads all
 S = record { has = reads; may = reads }
 
-abbrev pub N : Mode -- counting: adds to all
+abbrev pub N : Mode  -- counting: adds to all
 N = record { has = adds; may = adds }
 
-abbrev pub SIX : Mode -- reads all, intent to do anything
+abbrev pub SIX : Mode  -- reads all, intent to do anything
 SIX = record { has = reads; may = everything }
 
-abbrev pub NIX : Mode -- adds to all, intent to do anything
+abbrev pub NIX : Mode  -- adds to all, intent to do anything
 NIX = record { has = adds; may = everything }
 
-abbrev pub X : Mode -- exclusive
+abbrev pub X : Mode  -- exclusive
 X = record { has = everything; may = everything }
 
 -- The mode of a job that holds both, part by part.
@@ -125,12 +125,12 @@ code d p = place (d .modes) p
 -- further up that it may use that right below.
 abbrev pub system : Design → System
 system d =
-    record
-    { count = length (d .modes)
-    ; join = λ a b. code d (joined (mode d a) (mode d b))
-    ; stands = λ a b. stand (mode d a) (mode d b)
-    ; full = λ k. code d (record { has = d .right k; may = d .right k })
-    ; intent = λ k. code d (record { has = nothing; may = d .right k })
+    record {
+      count = length (d .modes);
+      join = λ a b. code d (joined (mode d a) (mode d b));
+      stands = λ a b. stand (mode d a) (mode d b);
+      full = λ k. code d (record { has = d .right k; may = d .right k });
+      intent = λ k. code d (record { has = nothing; may = d .right k });
     }
 
 -- Gray's system. An addition needs everything, as a set does.

@@ -10,13 +10,21 @@ use crate::system::ModeSystem;
 // No lock; intent to read, to add, to do anything below; reads all beneath; adds to all beneath; either with
 // intent to do anything there; does anything with all beneath.
 pub const NL: u8 = 0;
+
 pub const IS: u8 = 1;
+
 pub const IN: u8 = 2;
+
 pub const IX: u8 = 3;
+
 pub const S: u8 = 4;
+
 pub const N: u8 = 5;
+
 pub const SIX: u8 = 6;
+
 pub const NIX: u8 = 7;
+
 pub const X: u8 = 8;
 
 // The modes of a job that holds `a` and, in turn, each of the system's modes.

@@ -10,10 +10,15 @@ use crate::system::ModeSystem;
 // No lock; intent to read below; intent to do anything below; reads all beneath; reads all beneath with
 // intent to do anything there; does anything with all beneath.
 pub const NL: u8 = 0;
+
 pub const IS: u8 = 1;
+
 pub const IX: u8 = 2;
+
 pub const S: u8 = 3;
+
 pub const SIX: u8 = 4;
+
 pub const X: u8 = 5;
 
 // The modes of a job that holds `a` and, in turn, each of the system's modes.

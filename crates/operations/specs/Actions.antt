@@ -12,11 +12,11 @@ kind Mean = Reading
 kind (Set w) = Setting
 kind (Add w) = Adding
 
--- What is left of the word of a record. Sums wrap at 4294967296, one past the largest word.
+-- What is left of the word of a record. A word has 32 bits: what does not fit wraps at 4294967296.
 abbrev pub changed : Action → ℕ → ℕ
 changed Read word = word
 changed Mean word = word
-changed (Set w) word = w
+changed (Set w) word = w % 4294967296
 changed (Add w) word = (word + w) % 4294967296
 
 -- A sum over a count, to the nearest whole number, halves up; over no records it is 0, as a number over 0 is.

@@ -14,7 +14,12 @@ use std::alloc::Global;
 
 // Carries operations out one after the other, nothing between them, and answers each. The memory for the answers is
 // taken before the first.
-pub fn run_alone<S: Shelf>(heap: Global, tree: &Tree, shelf: &mut S, operations: &[Operation]) -> Result<Vec<Outcome>, AllocError>
+pub fn run_alone<S: Shelf>(
+    heap: Global,
+    tree: &Tree,
+    shelf: &mut S,
+    operations: &[Operation],
+) -> Result<Vec<Outcome>, AllocError>
     ensures ran { λ r. ⌜ Ran (table (now (tree .entry))) (S·Shelf .words (now (shelf .entry))) (now (operations .entry)) (mapped vec-items (okPart r)) (S·Shelf .words (now (shelf .exit))) ⌝ }
 {
     let mut answers = Vec::with_capacity(heap, operations.len())?;

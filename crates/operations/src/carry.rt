@@ -41,7 +41,10 @@ pub fn figures<S: Shelf>(tree: &Tree, shelf: &S, granule: usize) -> (u64, u32)
     ensures count { λ r. ⌜ r .1 ≡ records-beneath (table (now (tree .entry))) granule ⌝ }
     ensures bound { λ r. ⌜ r .0 ≤ 256 * 4294967295 ⌝ }
 {
-    (total(tree, shelf, granule), tree.records_beneath(granule) as u32)
+    (
+        total(tree, shelf, granule),
+        tree.records_beneath(granule) as u32,
+    )
 }
 
 // A sum over a count, to the nearest whole number, halves up; over no records it is 0.

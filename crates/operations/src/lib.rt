@@ -9,7 +9,6 @@ pub mod alone;
 pub mod carry;
 pub mod facts;
 pub mod operation;
-
 #[cfg(test)]
 mod tests;
 

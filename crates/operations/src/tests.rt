@@ -23,8 +23,14 @@ fn one_granule(rt: LibcRuntime) -> Result<(), Fail> {
     let tree = Tree::new(&[0], 1)?;
     let mut shelf = WordShelf::new(rt.alloc(), 1)?;
     check(shelf.put(0, 4294967295))?;
-    check_eq(carry_out(&tree, &mut shelf, on(0, Action::Read)), Outcome::Figures(4294967295, 1))?;
-    check_eq(carry_out(&tree, &mut shelf, on(0, Action::Add(5))), Outcome::Done)?;
+    check_eq(
+        carry_out(&tree, &mut shelf, on(0, Action::Read)),
+        Outcome::Figures(4294967295, 1),
+    )?;
+    check_eq(
+        carry_out(&tree, &mut shelf, on(0, Action::Add(5))),
+        Outcome::Done,
+    )?;
     check_eq(shelf.get(0), Some(4))
 }
 
@@ -33,11 +39,26 @@ fn one_granule(rt: LibcRuntime) -> Result<(), Fail> {
 fn a_set_reaches_the_records_beneath(rt: LibcRuntime) -> Result<(), Fail> {
     let tree = Tree::new(&[0, 0, 0, 1, 1], 5)?;
     let mut shelf = WordShelf::new(rt.alloc(), 5)?;
-    check_eq(carry_out(&tree, &mut shelf, on(1, Action::Set(7))), Outcome::Done)?;
-    check_eq(carry_out(&tree, &mut shelf, on(3, Action::Add(2))), Outcome::Done)?;
-    check_eq(carry_out(&tree, &mut shelf, on(0, Action::Read)), Outcome::Figures(16, 3))?;
-    check_eq(carry_out(&tree, &mut shelf, on(1, Action::Mean)), Outcome::Average(8))?;
-    check_eq(carry_out(&tree, &mut shelf, on(0, Action::Mean)), Outcome::Average(5))?;
+    check_eq(
+        carry_out(&tree, &mut shelf, on(1, Action::Set(7))),
+        Outcome::Done,
+    )?;
+    check_eq(
+        carry_out(&tree, &mut shelf, on(3, Action::Add(2))),
+        Outcome::Done,
+    )?;
+    check_eq(
+        carry_out(&tree, &mut shelf, on(0, Action::Read)),
+        Outcome::Figures(16, 3),
+    )?;
+    check_eq(
+        carry_out(&tree, &mut shelf, on(1, Action::Mean)),
+        Outcome::Average(8),
+    )?;
+    check_eq(
+        carry_out(&tree, &mut shelf, on(0, Action::Mean)),
+        Outcome::Average(5),
+    )?;
     check_eq(shelf.get(0), Some(0))?;
     check_eq(shelf.get(1), Some(0))?;
     check_eq(shelf.get(2), Some(0))
@@ -50,9 +71,15 @@ fn halves_go_up(rt: LibcRuntime) -> Result<(), Fail> {
     let mut shelf = WordShelf::new(rt.alloc(), 3)?;
     check(shelf.put(1, 1))?;
     check(shelf.put(2, 2))?;
-    check_eq(carry_out(&tree, &mut shelf, on(0, Action::Mean)), Outcome::Average(2))?;
+    check_eq(
+        carry_out(&tree, &mut shelf, on(0, Action::Mean)),
+        Outcome::Average(2),
+    )?;
     check(shelf.put(2, 4))?;
-    check_eq(carry_out(&tree, &mut shelf, on(0, Action::Mean)), Outcome::Average(3))
+    check_eq(
+        carry_out(&tree, &mut shelf, on(0, Action::Mean)),
+        Outcome::Average(3),
+    )
 }
 
 #[test]

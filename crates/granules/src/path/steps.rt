@@ -2,6 +2,7 @@
 ghost use mathlib.Core.List.{[], _∷_, _++_};
 ghost use mathlib.Core.Path.{_≡_};
 ghost use Prim.Native.Nat.{_<_};
+ghost use lib.Dec.{ltb};
 ghost use lib.ListN.{length, getD};
 ghost use Rattle.granules.specs.Trees.{steps};
 use super::Path;
@@ -11,7 +12,10 @@ impl Path {
     pub fn root() -> Path
         ensures value { λ r. ⌜ steps r ≡ 0 ∷ [] ⌝ }
     {
-        Path { len: 1, granules: [0; 8] }
+        Path {
+            len: 1,
+            granules: [0; 8],
+        }
     }
 
     // This path, and then one granule more.
@@ -21,7 +25,10 @@ impl Path {
     {
         let mut granules = self.granules;
         granules[self.len] = granule;
-        Path { len: self.len + 1, granules }
+        Path {
+            len: self.len + 1,
+            granules,
+        }
     }
 
     pub fn len(&self) -> usize
@@ -30,11 +37,18 @@ impl Path {
         self.len
     }
 
+    // Whether the path goes as far as a place.
+    fn has(&self, place: usize) -> bool
+        ensures value { λ r. ⌜ r ≡ ltb place (length (steps (now (self .entry)))) ⌝ }
+    {
+        place < self.len
+    }
+
     // The granule at a place, counted from the root; past the end it is the root.
     pub fn at(&self, place: usize) -> usize
         ensures value { λ r. ⌜ r ≡ getD (steps (now (self .entry))) place 0 ⌝ }
     {
-        if place >= self.len {
+        if !self.has(place) {
             return 0;
         }
         self.granules[place] as usize

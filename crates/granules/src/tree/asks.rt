@@ -32,10 +32,17 @@ impl Tree {
         self.granules
     }
 
+    // Whether there is such a granule.
+    pub fn has(&self, granule: usize) -> bool
+        ensures value { λ r. ⌜ r ≡ ltb granule (length (table (now (self .entry)))) ⌝ }
+    {
+        granule < self.granules
+    }
+
     pub fn parent(&self, granule: usize) -> usize
         ensures value { λ r. ⌜ r ≡ parent (table (now (self .entry))) granule ⌝ }
     {
-        if granule >= self.granules {
+        if !self.has(granule) {
             return 0;
         }
         self.parents[granule] as usize
@@ -44,7 +51,7 @@ impl Tree {
     pub fn is_record(&self, granule: usize) -> bool
         ensures value { λ r. ⌜ r ≡ is-record (table (now (self .entry))) granule ⌝ }
     {
-        granule < self.granules && self.records[granule]
+        self.has(granule) && self.records[granule]
     }
 
     // Whether a granule lies beneath another.
@@ -61,7 +68,7 @@ impl Tree {
     pub fn path(&self, granule: usize) -> Path
         ensures value { λ r. ⌜ steps r ≡ cond (ltb granule (length (table (now (self .entry))))) (path (table (now (self .entry))) granule) (0 ∷ []) ⌝ }
     {
-        if granule == 0 || granule >= self.granules {
+        if granule == 0 || !self.has(granule) {
             return Path::root();
         }
         self.path(self.parent(granule)).then(granule as u8)

@@ -17,7 +17,11 @@ use crate::unfit::Unfit;
 fn is_right(granule: usize, parent: u32) -> bool
     ensures value { λ r. ⌜ r ≡ right-for granule parent ⌝ }
 {
-    if granule == 0 { parent == 0 } else { (parent as usize) < granule }
+    if granule == 0 {
+        parent == 0
+    } else {
+        (parent as usize) < granule
+    }
 }
 
 // Whether each granule has a parent that it may have.
@@ -106,6 +110,10 @@ impl Tree {
         }
         let records = childless(parents);
         let parents = narrowed(parents);
-        Ok(Tree { granules, parents, records })
+        Ok(Tree {
+            granules,
+            parents,
+            records,
+        })
     }
 }

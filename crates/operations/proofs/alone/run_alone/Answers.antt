@@ -19,16 +19,16 @@ loop-operation-again g c =
     let long : length (vec-items v) ≡ c .loop-operation .operation-index = sym (v .ok .0) ∙ before .0 in
     let words = g .S·Shelf .words in
     let ps = table (c .args .tree .now) in
-    let i = c .loop-operation .operation-index in
-    ( omega (arith, c .push-reserved .ensures .len, before .0)
-    , omega (arith, c .push-reserved .ensures .capacity, before .1)
-    , subst
-      (λ (xs : List Outcome).
+    let i = c .loop-operation .operation-index in (
+      omega (arith, c .push-reserved .ensures .len, before .0),
+      omega (arith, c .push-reserved .ensures .capacity, before .1),
+      subst
+          (λ (xs : List Outcome).
           Alone ps (words (c .args .shelf .now)) (noted (take (i + 1) (c .args .operations .now)) xs) (words (c .carry-out-answer .last .shelf)))
-      (sym (c .push-reserved .ensures .items))
-      (ran-more ps (words (c .args .shelf .now)) (c .args .operations .now) (vec-items v) i _
-      (c .carry-out-answer .result) (words (c .loop-operation .shelf)) (words (c .carry-out-answer .last .shelf))
-      (c .loop-operation-test .taken) long (c .carry-out-answer .ensures .value) (c .carry-out-answer .ensures .after) (before .2))
+          (sym (c .push-reserved .ensures .items))
+          (ran-more ps (words (c .args .shelf .now)) (c .args .operations .now) (vec-items v) i _
+          (c .carry-out-answer .result) (words (c .loop-operation .shelf)) (words (c .carry-out-answer .last .shelf))
+          (c .loop-operation-test .taken) long (c .carry-out-answer .ensures .value) (c .carry-out-answer .ensures .after) (before .2)),
     )
 
 pub returns : need.returns
@@ -38,11 +38,11 @@ returns g c =
     let os = c .args .operations .now in
     let words = g .S·Shelf .words in
     let i = c .loop-operation .operation-index in
-    record
-    { ran =
-        ( omega (arith, v .ok .0, inv .0)
-        , subst
-          (λ (xs : List Operation). Alone (table (c .args .tree .now)) (words (c .args .shelf .now)) (noted xs (vec-items v)) (words (c .loop-operation .shelf)))
-          (take-all i os (c .loop-operation-test .left)) (inv .2)
-        )
+    record {
+      ran = (
+        omega (arith, v .ok .0, inv .0),
+        subst
+            (λ (xs : List Operation). Alone (table (c .args .tree .now)) (words (c .args .shelf .now)) (noted xs (vec-items v)) (words (c .loop-operation .shelf)))
+            (take-all i os (c .loop-operation-test .left)) (inv .2),
+      );
     }

@@ -11,4 +11,4 @@ Inv-loop-operation g l =
     (vec-len (l .answers) ≡ l .operation-index)
     × (length (l .operations) ≤ vec-cap (l .answers))
     × Alone (table (l .tree)) (g .S·Shelf .words (l .entry .shelf)) (noted (take (l .operation-index) (l .operations)) (vec-items (l .answers)))
-      (g .S·Shelf .words (l .shelf))
+    (g .S·Shelf .words (l .shelf))

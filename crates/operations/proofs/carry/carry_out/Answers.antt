@@ -11,10 +11,10 @@ returns-in-Read g c =
     let ps = table (c .args .tree .now) in
     let o = c .args .operation in
     let ws = g .S·Shelf .words (c .args .shelf .now) in
-    record
-    { value = search needs
-    ; after =
-        sym (after-still ps o ws (λ w. ap (λ (a : Action). changed a w) (c .in-Read .is)))
+    record {
+      value = search needs;
+      after =
+          sym (after-still ps o ws (λ w. ap (λ (a : Action). changed a w) (c .in-Read .is)));
     }
 
 pub returns-in-Mean : need.returns-in-Mean
@@ -22,8 +22,8 @@ returns-in-Mean g c =
     let ps = table (c .args .tree .now) in
     let o = c .args .operation in
     let ws = g .S·Shelf .words (c .args .shelf .now) in
-    record
-    { value = search needs
-    ; after =
-        sym (after-still ps o ws (λ w. ap (λ (a : Action). changed a w) (c .in-Mean .is)))
+    record {
+      value = search needs;
+      after =
+          sym (after-still ps o ws (λ w. ap (λ (a : Action). changed a w) (c .in-Mean .is)));
     }

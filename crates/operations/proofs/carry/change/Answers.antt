@@ -22,27 +22,27 @@ loop-r-again g c =
     let start = g .S·Shelf .words (c .args .shelf .now) in
     let before = g .S·Shelf .words (c .loop-r .shelf) in
     let r = c .loop-r .r in
-    elim (c .if-is-record-beneath .came)
-    [ then-is-record-beneath w ↦
-        let new : w .changed-new .result ≡ changed (o .action) (getD before r 0) =
+    elim (c .if-is-record-beneath .came) [
+      | then-is-record-beneath w ↦
+          let new : w .changed-new .result ≡ changed (o .action) (getD before r 0) =
           w .changed-new .ensures .value ∙ ap (changed (o .action)) (w .word .ensures .value ∙ word-at before r)
-        in
-        ap (g .S·Shelf .words) (w .shelf-is)
-        ∙ w .put .ensures .after
-        ∙ ap (set before r) new
-        ∙ ap (λ (ws : List ℕ). set ws r (changed (o .action) (getD ws r 0))) (c .loop-r .inv)
-        ∙ upto-put r ps o start (sym (w .if-is-record-beneath .ensures tt .value))
-    | else-is-record-beneath w ↦
-        ap (g .S·Shelf .words) (w .shelf-is)
-        ∙ c .loop-r .inv
-        ∙ upto-skip r ps o start (sym (w .if-is-record-beneath .ensures tt .value))
+          in
+          ap (g .S·Shelf .words) (w .shelf-is)
+          ∙ w .put .ensures .after
+          ∙ ap (set before r) new
+          ∙ ap (λ (ws : List ℕ). set ws r (changed (o .action) (getD ws r 0))) (c .loop-r .inv)
+          ∙ upto-put r ps o start (sym (w .if-is-record-beneath .ensures tt .value))
+      | else-is-record-beneath w ↦
+          ap (g .S·Shelf .words) (w .shelf-is)
+          ∙ c .loop-r .inv
+          ∙ upto-skip r ps o start (sym (w .if-is-record-beneath .ensures tt .value))
     ]
 
 pub returns : need.returns
 returns g c =
-    record
-    { after =
-        c .loop-r .inv
-        ∙ upto-end (c .loop-r .r) (table (c .args .tree .now)) (c .args .operation) (g .S·Shelf .words (c .args .shelf .now))
-          (λ k b. omega (arith, c .span-first .ensures .all k b .1))
+    record {
+      after =
+          c .loop-r .inv
+          ∙ upto-end (c .loop-r .r) (table (c .args .tree .now)) (c .args .operation) (g .S·Shelf .words (c .args .shelf .now))
+          (λ k b. omega (arith, c .span-first .ensures .all k b .1));
     }

@@ -40,13 +40,13 @@ loop-r-again g c =
     let test = record-beneath (table t) (c .args .granule) in
     let more = sum-more r test (λ r. getD ws r 0) in
     let before = c .loop-r .inv in
-    elim (c .if-is-record-beneath .came)
-    [ then-is-record-beneath w ↦
-        let e = cond-true (test r) (getD ws r 0) 0 (sym (w .if-is-record-beneath .ensures tt .value)) in
-        omega (arith, w .sum-is, w .word .ensures .value, word-at ws r)
-    | else-is-record-beneath w ↦
-        let e = cond-false (test r) (getD ws r 0) 0 (sym (w .if-is-record-beneath .ensures tt .value)) in
-        omega (arith, w .sum-is)
+    elim (c .if-is-record-beneath .came) [
+      | then-is-record-beneath w ↦
+          let e = cond-true (test r) (getD ws r 0) 0 (sym (w .if-is-record-beneath .ensures tt .value)) in
+          omega (arith, w .sum-is, w .word .ensures .value, word-at ws r)
+      | else-is-record-beneath w ↦
+          let e = cond-false (test r) (getD ws r 0) 0 (sym (w .if-is-record-beneath .ensures tt .value)) in
+          omega (arith, w .sum-is)
     ]
 
 pub returns : need.returns
@@ -58,11 +58,11 @@ returns g c =
     let few : length (table t) ≤ 256 = omega (arith, size t, t .few) in
     let fit : (k : ℕ) → getD ws k 0 ≤ 4294967295 = λ k. omega (arith, g .S·Shelf·met .fit s k) in
     let all : c .loop-r .sum ≡ sum-below (length (table t)) test (λ r. getD ws r 0) =
-      c .loop-r .inv
-      ∙ sum-same (c .loop-r .r) (length (table t)) test (λ r. getD ws r 0)
-        (λ k b.
-            let h = c .span-first .ensures .all k b .1 in
-            let e = c .span-first .ensures .bound in
-            (omega arith, omega arith))
+    c .loop-r .inv
+    ∙ sum-same (c .loop-r .r) (length (table t)) test (λ r. getD ws r 0)
+    (λ k b.
+    let h = c .span-first .ensures .all k b .1 in
+    let e = c .span-first .ensures .bound in
+    (omega arith, omega arith))
     in
     record { value = all; bound = omega (arith, sum-bound (length (table t)) test (λ r. getD ws r 0) fit) }

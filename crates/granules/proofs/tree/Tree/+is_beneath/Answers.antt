@@ -9,10 +9,10 @@ use Rattle.granules.proofs.tree.Tree.+is_beneath.Needs as need
 pub returns-in-Some : need.returns-in-Some
 returns-in-Some t c =
     let s = c .args .self .now in
-    record
-    { value =
-        settled-found (table s) (tree-falls s) (c .args .above) (c .args .granule) (c .in-Some .known)
-        (sym (c .in-Some .ensures tt .value))
+    record {
+      value =
+          settled-found (table s) (tree-falls s) (c .args .above) (c .args .granule) (c .in-Some .known)
+          (sym (c .in-Some .ensures tt .value));
     }
 
 pub is-beneath-requires : need.is-beneath-requires
@@ -25,9 +25,9 @@ pub returns-in-None : need.returns-in-None
 returns-in-None t c =
     let s = c .args .self .now in
     let o = settled-open (c .args .above) (c .args .granule) (sym (c .in-None .ensures tt .value)) in
-    record
-    { value =
-        c .is-beneath .ensures .value
-        ∙ ap (beneath (table s) (c .args .above)) (c .parent .ensures .value)
-        ∙ sym (beneath-up (table s) (tree-falls s) (c .args .above) (c .args .granule) (o .1) (o .0))
+    record {
+      value =
+          c .is-beneath .ensures .value
+          ∙ ap (beneath (table s) (c .args .above)) (c .parent .ensures .value)
+          ∙ sym (beneath-up (table s) (tree-falls s) (c .args .above) (c .args .granule) (o .1) (o .0));
     }

@@ -5,29 +5,29 @@ use native.Mathlib.Omega.{arith}
 use Prim.Native.Nat.{ℕ, _<_}
 use lib.Dec.{ltb}
 use lib.ListN.{length}
-use Rattle.std.proofs.shelf.Tests.{cond-true, cond-false, lt-ltb, le-ltb}
+use Rattle.std.proofs.shelf.Tests.{lt-ltb, ltb-true}
 use Rattle.granules.specs.Paths.{path, parent}
 use Rattle.granules.specs.Trees.{table, steps}
 use Rattle.granules.proofs.Climbs.{path-root, path-step, path-room}
 use Rattle.granules.proofs.Kept.{size, long, tree-falls, path-inside, path-outside, path-above}
 use Rattle.granules.proofs.tree.Tree.+path.Needs as need
-use Rattle.granules.proofs.tree.Tree.+path.Needs.{then-granule-eq0·by·then-granule-eq0, then-granule-eq0·by·else-granule-eq0·then-granule-self}
+use Rattle.granules.proofs.tree.Tree.+path.Needs.{then-granule-eq0·by·then-granule-eq0, then-granule-eq0·by·else-granule-eq0·then-not-has}
 
 pub returns-then-granule-eq0 : need.returns-then-granule-eq0
 returns-then-granule-eq0 t c =
     let s = c .args .self .now in
     let root = c .root .ensures .value in
-    elim (c .then-granule-eq0 .came)
-    [ then-granule-eq0·by·then-granule-eq0 w ↦
-        record
-        { value =
-            root
-            ∙ sym (path-root (table s))
-            ∙ ap (path (table s)) (sym (w .if-granule-eq0 .taken))
-            ∙ sym (path-inside s (c .args .granule) (omega (arith, w .if-granule-eq0 .taken, s .some)))
-        }
-    | then-granule-eq0·by·else-granule-eq0·then-granule-self w ↦
-        record { value = root ∙ sym (path-outside s (c .args .granule) (w .if-granule-self .taken)) }
+    elim (c .then-granule-eq0 .came) [
+      | then-granule-eq0·by·then-granule-eq0 w ↦
+          record {
+            value =
+                root
+                ∙ sym (path-root (table s))
+                ∙ ap (path (table s)) (sym (w .if-granule-eq0 .taken))
+                ∙ sym (path-inside s (c .args .granule) (lt-ltb (c .args .granule) (length (table s)) (omega (arith, w .if-granule-eq0 .taken, s .some, size s))));
+          }
+      | then-granule-eq0·by·else-granule-eq0·then-not-has w ↦
+          record { value = root ∙ sym (path-outside s (c .args .granule) (sym (w .if-not-has .ensures tt .value))) }
     ]
 
 pub path-requires : need.path-requires
@@ -38,18 +38,18 @@ path-requires t c κs =
 pub then-requires : need.then-requires
 then-requires t c κs =
     let s = c .args .self .now in
-    let room = path-room (table s) (tree-falls s) (s .shallow) (c .args .granule) (omega arith) (omega (arith, size s)) in
-    let up = path-above s (c .args .granule) (c .parent .result) (steps (c .path .result)) (omega arith) (omega arith) (c .parent .ensures .value) (c .path .ensures .value) in
+    let room = path-room (table s) (tree-falls s) (s .shallow) (c .args .granule) (omega arith) (ltb-true (c .args .granule) (length (table s)) (sym (c .if-not-has .ensures tt .value))) in
+    let up = path-above s (c .args .granule) (c .parent .result) (steps (c .path .result)) (omega arith) (sym (c .if-not-has .ensures tt .value)) (c .parent .ensures .value) (c .path .ensures .value) in
     omega (arith, long (c .path .result), ap length up)
 
 pub returns : need.returns
 returns t c =
     let s = c .args .self .now in
-    record
-    { value =
-        c .then .ensures .value
-        ∙ ap (λ (xs : List ℕ). xs ++ c .args .granule ∷ [])
-          (path-above s (c .args .granule) (c .parent .result) (steps (c .path .result)) (omega arith) (omega arith) (c .parent .ensures .value) (c .path .ensures .value))
-        ∙ sym (path-step (table s) (tree-falls s) (c .args .granule) (omega arith))
-        ∙ sym (path-inside s (c .args .granule) (omega arith))
+    record {
+      value =
+          c .then .ensures .value
+          ∙ ap (λ (xs : List ℕ). xs ++ c .args .granule ∷ [])
+          (path-above s (c .args .granule) (c .parent .result) (steps (c .path .result)) (omega arith) (sym (c .if-not-has .ensures tt .value)) (c .parent .ensures .value) (c .path .ensures .value))
+          ∙ sym (path-step (table s) (tree-falls s) (c .args .granule) (omega arith))
+          ∙ sym (path-inside s (c .args .granule) (sym (c .if-not-has .ensures tt .value)));
     }

@@ -12,15 +12,25 @@ use Rattle.granules.proofs.tree.Tree.new.Needs as need
 pub ghost-result : need.ghost-result
 ghost-result c =
     let ps = c .args .parents .now in
-    let same = c .narrowed-parents .ensures .value in
-    ( omega arith
-    , ( omega arith
-    , ( (c .narrowed-parents .ensures .len, c .childless-records .ensures .len)
-    , ( subst (λ (x : List ℕ). rooted x ≡ true) (sym same) (sym (c .if-not-is-rooted .ensures tt .value))
-    , ( subst (λ (x : List ℕ). shallow x ≡ true) (sym same) (sym (c .if-not-is-shallow .ensures tt .value))
-    , ( (λ g h.
-          c .childless-records .ensures .value g (omega arith)
-          ∙ record-free ps g h
-          ∙ ap (λ (x : List ℕ). is-record x g) (sym same))
-    , tt
-    ))))))
+    let same = c .narrowed-parents .ensures .value in (
+      omega arith,
+      (
+        omega arith,
+        (
+          (c .narrowed-parents .ensures .len, c .childless-records .ensures .len),
+          (
+            subst (λ (x : List ℕ). rooted x ≡ true) (sym same) (sym (c .if-not-is-rooted .ensures tt .value)),
+            (
+              subst (λ (x : List ℕ). shallow x ≡ true) (sym same) (sym (c .if-not-is-shallow .ensures tt .value)),
+              (
+                (λ g h.
+                    c .childless-records .ensures .value g (omega arith)
+                    ∙ record-free ps g h
+                    ∙ ap (λ (x : List ℕ). is-record x g) (sym same)),
+                tt,
+              ),
+            ),
+          ),
+        ),
+      ),
+    )

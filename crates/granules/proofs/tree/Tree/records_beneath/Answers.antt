@@ -32,13 +32,13 @@ loop-g-again c =
     let test = record-beneath (table t) (c .args .granule) in
     let more = sum-more g test (λ _. 1) in
     let before = c .loop-g .inv in
-    elim (c .if-is-record-beneath .came)
-    [ then-is-record-beneath w ↦
-        let e : _≡_ {A = ℕ} (cond (test g) 1 0) 1 = cond-true (test g) 1 0 (sym (w .if-is-record-beneath .ensures tt .value)) in
-        omega (arith, w .count-is)
-    | else-is-record-beneath w ↦
-        let e : _≡_ {A = ℕ} (cond (test g) 1 0) 0 = cond-false (test g) 1 0 (sym (w .if-is-record-beneath .ensures tt .value)) in
-        omega (arith, w .count-is)
+    elim (c .if-is-record-beneath .came) [
+      | then-is-record-beneath w ↦
+          let e : _≡_ {A = ℕ} (cond (test g) 1 0) 1 = cond-true (test g) 1 0 (sym (w .if-is-record-beneath .ensures tt .value)) in
+          omega (arith, w .count-is)
+      | else-is-record-beneath w ↦
+          let e : _≡_ {A = ℕ} (cond (test g) 1 0) 0 = cond-false (test g) 1 0 (sym (w .if-is-record-beneath .ensures tt .value)) in
+          omega (arith, w .count-is)
     ]
 
 pub returns : need.returns
@@ -46,15 +46,15 @@ returns c =
     let t = c .args .self .now in
     let test = record-beneath (table t) (c .args .granule) in
     let all : c .loop-g .count ≡ count-below (length (table t)) test =
-      c .loop-g .inv
-      ∙ sum-same (c .loop-g .g) (length (table t)) test (λ _. 1)
-        (λ k b.
-            let s = c .span-first .ensures .all k b .1 in
-            let e = c .span-first .ensures .bound in
-            (omega arith, omega arith))
+    c .loop-g .inv
+    ∙ sum-same (c .loop-g .g) (length (table t)) test (λ _. 1)
+    (λ k b.
+    let s = c .span-first .ensures .all k b .1 in
+    let e = c .span-first .ensures .bound in
+    (omega arith, omega arith))
     in
-    record
-    { value = all
-    ; some = λ h. omega (arith, records-some (table t) (tree-falls t) (c .args .granule) h)
-    ; bound = omega (arith, count-le (length (table t)) test, size t, t .few)
+    record {
+      value = all;
+      some = λ h. omega (arith, records-some (table t) (tree-falls t) (c .args .granule) h);
+      bound = omega (arith, count-le (length (table t)) test, size t, t .few);
     }

@@ -18,21 +18,21 @@ pub returns-then-is-record : need.returns-then-is-record
 returns-then-is-record c =
     let t = c .args .self .now in
     let e = sym (c .if-is-record .ensures tt .value) in
-    record
-    { value = sym (span-record (table t) (c .args .granule) e)
-    ; all = record-span (table t) (tree-falls t) (c .args .granule) e
-    ; bound = omega (arith, record-parts (table t) (c .args .granule) e .0)
+    record {
+      value = sym (span-record (table t) (c .args .granule) e);
+      all = record-span (table t) (tree-falls t) (c .args .granule) e;
+      bound = omega (arith, record-parts (table t) (c .args .granule) e .0);
     }
 
 pub returns-else-is-record : need.returns-else-is-record
 returns-else-is-record c =
     let t = c .args .self .now in
     let e = sym (c .if-is-record .ensures tt .value) in
-    record
-    { value = ap (λ (n : ℕ). (c .args .granule, n)) (sym (size t)) ∙ sym (span-other (table t) (c .args .granule) e)
-    ; all =
-        λ k b.
-            let s = other-span (table t) (tree-falls t) (c .args .granule) k b in
-            (s .0, omega (arith, s .1, size t))
-    ; bound = omega (arith, size t)
+    record {
+      value = ap (λ (n : ℕ). (c .args .granule, n)) (sym (size t)) ∙ sym (span-other (table t) (c .args .granule) e);
+      all =
+          λ k b.
+          let s = other-span (table t) (tree-falls t) (c .args .granule) k b in
+          (s .0, omega (arith, s .1, size t));
+      bound = omega (arith, size t);
     }

@@ -24,15 +24,15 @@ loop-g-again c =
     let ps = c .args .parents .now in
     let free = c .loop-g .free in
     let g = c .loop-g .g in
-    elim (c .if-g-gt0 .came)
-    [ then-g-gt0 w ↦
-        ( ap length (w .free-is) ∙ length-set free (parent ps g) false ∙ c .loop-g .inv .0
-        , subst (λ (x : List Bool). Marked ps x (g + 1)) (sym (w .free-is))
-          (marked-more ps free g (w .if-g-gt0 .taken) (c .loop-g .inv .0) (c .loop-g .inv .1))
-        )
-    | else-g-gt0 w ↦
-        ( ap length (w .free-is) ∙ c .loop-g .inv .0
-        , subst (λ (x : List Bool). Marked ps x (g + 1)) (sym (w .free-is))
-          (marked-root ps free g (w .if-g-gt0 .left) (c .loop-g .inv .1))
-        )
+    elim (c .if-g-gt0 .came) [
+      | then-g-gt0 w ↦ (
+        ap length (w .free-is) ∙ length-set free (parent ps g) false ∙ c .loop-g .inv .0,
+        subst (λ (x : List Bool). Marked ps x (g + 1)) (sym (w .free-is))
+            (marked-more ps free g (w .if-g-gt0 .taken) (c .loop-g .inv .0) (c .loop-g .inv .1)),
+      )
+      | else-g-gt0 w ↦ (
+        ap length (w .free-is) ∙ c .loop-g .inv .0,
+        subst (λ (x : List Bool). Marked ps x (g + 1)) (sym (w .free-is))
+            (marked-root ps free g (w .if-g-gt0 .left) (c .loop-g .inv .1)),
+      )
     ]

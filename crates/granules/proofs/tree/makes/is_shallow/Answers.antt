@@ -11,11 +11,11 @@ pub returns-then-depth-gt8 : need.returns-then-depth-gt8
 returns-then-depth-gt8 c =
     let ps = c .args .parents .now in
     let g = c .loop-g .g in
-    record
-    { value =
-        sym
-        (each-fails (length ps) (λ g. leb (length (path ps g)) 8) g (c .loop-g-test .taken)
-        (lt-leb (length (path ps g)) 8 (omega (arith, c .depth .ensures .value))))
+    record {
+      value =
+          sym
+          (each-fails (length ps) (λ g. leb (length (path ps g)) 8) g (c .loop-g-test .taken)
+          (lt-leb (length (path ps g)) 8 (omega (arith, c .depth .ensures .value))));
     }
 
 pub loop-g-again : need.loop-g-again

@@ -1,4 +1,3 @@
-use mathlib.Core.Path.{sym}
 use Rattle.shelf.proofs.joined.JoinedShelfShelf.put.Needs as need
 
 pub returns-in-Outside : need.returns-in-Outside

@@ -1,4 +1,3 @@
-use mathlib.Core.Path.{sym}
 use native.Mathlib.Omega.{arith}
 use Rattle.shelf.proofs.Sides.{length-joined}
 use Rattle.shelf.proofs.joined.JoinedShelfShelf.size.Needs as need
