@@ -9,8 +9,13 @@ use shelf::JoinedShelf;
 use shelf::PackedShelf;
 use shelf::Shelf;
 use shelf::WordShelf;
+use shelf::joined::JoinedShelfShelf;
+use shelf::packed::PackedShelfShelf;
+use shelf::words::WordShelfShelf;
 use std::alloc::AllocError;
 use std::alloc::Global;
+use std::error::AnyError;
+use std::fmt;
 use std::fmt::Write;
 
 // The shelf that the program runs on: 128 places of words, then 128 of four bytes each.
@@ -36,7 +41,7 @@ fn floor(heap: Global, words: &[u32]) -> Result<Floor, AllocError> {
 }
 
 // The line of one answer.
-fn write_answer(out: &mut String, at: usize, answer: Outcome) -> Result<(), AllocError> {
+fn write_answer(out: &mut String, at: usize, answer: Outcome) -> fmt::Result {
     match answer {
         Outcome::Figures(sum, count) => writeln!(out, "{at} read {sum} {count}"),
         Outcome::Average(mean) => writeln!(out, "{at} mean {mean}"),
@@ -44,7 +49,7 @@ fn write_answer(out: &mut String, at: usize, answer: Outcome) -> Result<(), Allo
     }
 }
 
-fn listed(heap: Global, tree: &Tree, work: &Work) -> Result<String, AllocError> {
+fn listed(heap: Global, tree: &Tree, work: &Work) -> Result<String, AnyError> {
     let mut floor = floor(heap, work.words.as_slice())?;
     let answers = run_alone(heap, tree, &mut floor, work.operations.as_slice())?;
     let mut out = String::new(heap);
@@ -61,13 +66,13 @@ fn listed(heap: Global, tree: &Tree, work: &Work) -> Result<String, AllocError> 
 }
 
 // Runs an input, or says in one line why it is not admitted.
-pub fn report(heap: Global, text: &[u8]) -> Result<Report, AllocError> {
+pub fn report_on(heap: Global, text: &[u8]) -> Result<Report, AnyError> {
     let work = match input::read(heap, text) {
         Ok(work) => work,
         Err(Denied::Entry(line, entry)) => return Ok(Report::Denied(
             format!(heap, "bad line {line} entry {entry}\n")?,
         )),
-        Err(Denied::Memory) => return Err(AllocError),
+        Err(Denied::Memory) => return Err("no memory".into()),
     };
     match Tree::new(work.parents.as_slice(), work.words.len()) {
         Ok(tree) => Ok(Report::Ran(listed(heap, &tree, &work)?)),

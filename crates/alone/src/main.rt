@@ -14,7 +14,7 @@ use std::io::Read;
 fn main(rt: LibcRuntime) -> Result<(), AnyError> {
     let mut text = Vec::new(rt.alloc());
     rt.stdin().read_to_end(&mut text)?;
-    match listing::report(rt.alloc(), text.as_slice())? {
+    match listing::report_on(rt.alloc(), text.as_slice())? {
         Report::Ran(listing) => {
             rt.print(listing)?;
             Ok(())
