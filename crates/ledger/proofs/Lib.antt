@@ -1,0 +1,9 @@
+pub mod Swaps
+pub mod Runs
+pub mod Piles
+pub mod Orders
+pub mod Books
+pub mod Wounds
+pub mod Covers
+pub mod Kept
+pub mod Walking
