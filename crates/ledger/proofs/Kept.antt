@@ -51,13 +51,13 @@ pub record Kept (y : Layout) (start : List ℕ) (l : Ledger) (ws : List ℕ) (no
   -- committed jobs have ended
   pub ordered : (k : ℕ) → is-ended (l .jobs .status k) ≡ false → count-of k (l .order) ≡ 0
 
-open-not-ended : (st : Status) → is-open st ≡ true → is-ended st ≡ false
+pub open-not-ended : (st : Status) → is-open st ≡ true → is-ended st ≡ false
 open-not-ended working e = refl
 open-not-ended (waiting o) e = refl
 open-not-ended wounded e = refl
 open-not-ended ended e = sym e
 
-open-not-wounded : (st : Status) → is-open st ≡ true → is-wounded st ≡ false
+pub open-not-wounded : (st : Status) → is-open st ≡ true → is-wounded st ≡ false
 open-not-wounded working e = refl
 open-not-wounded (waiting o) e = refl
 open-not-wounded wounded e = sym e

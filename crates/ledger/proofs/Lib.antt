@@ -7,3 +7,5 @@ pub mod Wounds
 pub mod Covers
 pub mod Kept
 pub mod Walking
+pub mod Moves
+pub mod Serves

@@ -12,15 +12,16 @@ use Rattle.modes.specs.Systems.{System, Lawful}
 use Rattle.shelf.specs.Words.{Fit}
 use Rattle.granules.specs.Below.{some-below}
 use Rattle.granules.specs.Paths.{path}
+use Rattle.granules.proofs.Below.{some-at}
 use Rattle.granules.proofs.Climbs.{Falls, path-root, path-step}
-use Rattle.ledger.specs.Jobs.{Jobs, is-open, where-so, raise, wounded, put}
+use Rattle.ledger.specs.Jobs.{Jobs, is-open, is-ended, where-so, raise, wounded, put}
 use Rattle.ledger.specs.Walks.{Hands, Walked, judge, must-give-way, yields, blocks, has, target, walk}
 use Rattle.ledger.specs.Ledgers.{Layout, Ledger, ledger-hands}
 use Rattle.ledger.specs.Collisions.{covered}
 use Rattle.ledger.specs.Models.{Note, nothing, Model, model-hands, all-taken-back}
 use Rattle.ledger.proofs.Piles.{put-same, put-at}
 use Rattle.ledger.proofs.Wounds.{where-false, where-true}
-use Rattle.ledger.proofs.Kept.{Kept, judged-self, yields-young, stands-or-yields, in-the-way, wound-kept, raise-kept, has-still}
+use Rattle.ledger.proofs.Kept.{Kept, judged-self, yields-young, blocks-old, stands-or-yields, open-not-ended, in-the-way, wound-kept, raise-kept, has-still}
 
 abbrev pub model-of : Ledger → List ℕ → (ℕ → ℕ → Note) → Model
 model-of l ws notes = record { jobs = l .jobs; words = ws; notes = notes }
@@ -111,8 +112,10 @@ pub record Stepped (y : Layout) (start : List ℕ) (k : Kind) (a : ℕ) (l : Led
   pub model : wm .left ≡ model-of (wl .left) words notes
   pub complete : wm .complete ≡ wl .complete
   pub kept : Kept y start (wl .left) words notes
-  pub status : wl .left .jobs .status a ≡ l .jobs .status a
   pub still : (z part : ℕ) → has (y .system) (l .jobs .mode a z) part ≡ true → has (y .system) (wl .left .jobs .mode a z) part ≡ true
+  -- no older job is wounded, and only one that has not ended can stop the walk
+  pub older : (i : ℕ) → i ≤ a → wl .left .jobs .status i ≡ l .jobs .status i
+  pub stopped : wl .complete ≡ false → (i : ℕ) × (i < a) × (is-ended (l .jobs .status i) ≡ false)
   pub covers : wl .complete ≡ true → (covered (y .system) (wl .left .jobs .mode a) k xs ≡ true) ⊎ (xs ≡ [])
 
 stepped-as :
@@ -143,14 +146,20 @@ module _ (y : Layout) (law : Lawful (y .system)) (start : List ℕ) (fits : Fit 
     abbrev notes₁ : ℕ → ℕ → Note
     notes₁ = where-so hurt (λ _. nothing) notes
 
-    hurt-open : (i : ℕ) → hurt i ≡ true → is-open (l .jobs .status i) ≡ true
-    hurt-open i e =
+    -- who is in the way is open
+    way-open : (i : ℕ) → y .system .stands (l .jobs .mode i x) wants ≡ false → is-open (l .jobs .status i) ≡ true
+    way-open i e =
         elim (cases-bool (is-open (l .jobs .status i)))
-        [ inl o ↦ o
-        | inr o ↦
-            absurd
-            (in-the-way (y .system) law (l .jobs) a x wants i (yields-young (y .system) law (l .jobs) a x wants i e .1) (kept .idle i x o))
-        ]
+        [ inl o ↦ o | inr o ↦ absurd (in-the-way (y .system) law (l .jobs) a x wants i e (kept .idle i x o)) ]
+
+    hurt-open : (i : ℕ) → hurt i ≡ true → is-open (l .jobs .status i) ≡ true
+    hurt-open i e = way-open i (yields-young (y .system) law (l .jobs) a x wants i e .1)
+
+    older₁ : (i : ℕ) → i ≤ a → ledger₁ .jobs .status i ≡ l .jobs .status i
+    older₁ i h =
+        where-false hurt wounded (l .jobs .status) i
+        (elim (cases-bool (hurt i))
+        [ inl e ↦ absurd (omega (arith, yields-young (y .system) law (l .jobs) a x wants i e .0)) | inr e ↦ e ])
 
     asker-spared : hurt a ≡ false
     asker-spared = ap must-give-way (judged-self (y .system) a wants a (l .jobs .mode a x) refl)
@@ -158,24 +167,28 @@ module _ (y : Layout) (law : Lawful (y .system)) (start : List ℕ) (fits : Fit 
     kept₁ : Kept y start ledger₁ words₁ notes₁
     kept₁ = wound-kept y law start fits l ws notes kept hurt hurt-open
 
-    status₁ : ledger₁ .jobs .status a ≡ l .jobs .status a
-    status₁ = where-false hurt wounded (l .jobs .status) a asker-spared
-
     mode₁ : ledger₁ .jobs .mode a ≡ l .jobs .mode a
     mode₁ = where-false hurt (λ _. 0) (l .jobs .mode) a asker-spared
 
     still₁ : (z part : ℕ) → has (y .system) (l .jobs .mode a z) part ≡ true → has (y .system) (ledger₁ .jobs .mode a z) part ≡ true
     still₁ z part h = ap (λ (f : ℕ → ℕ). has (y .system) (f z) part) mode₁ ∙ h
 
-    on-stop : Stepped y start k a l (x ∷ xs) (record { left = ledger₁; complete = false }) (record { left = model-of ledger₁ words₁ notes₁; complete = false })
-    on-stop =
+    on-stop :
+      some-below a (blocks (y .system) (l .jobs) a x wants) ≡ true
+      → Stepped y start k a l (x ∷ xs) (record { left = ledger₁; complete = false }) (record { left = model-of ledger₁ words₁ notes₁; complete = false })
+    on-stop held =
         record
         { words = words₁
         ; notes = notes₁
         ; model = refl
         ; complete = refl
         ; kept = kept₁
-        ; status = status₁
+        ; older = older₁
+        ; stopped =
+            λ _.
+                let b = some-at a (blocks (y .system) (l .jobs) a x wants) held in
+                let old = blocks-old (y .system) law (l .jobs) a x wants (b .0) (b .2) in
+                (b .0, b .1, open-not-ended (l .jobs .status (b .0)) (way-open (b .0) (old .1)))
         ; still = still₁
         ; covers = λ c. absurd (both-ways false refl c)
         }
@@ -198,7 +211,8 @@ module _ (y : Layout) (law : Lawful (y .system)) (start : List ℕ) (fits : Fit 
         ; model = next .model
         ; complete = next .complete
         ; kept = next .kept
-        ; status = next .status
+        ; older = next .older
+        ; stopped = next .stopped
         ; still = next .still
         ; covers =
             λ c.
@@ -217,7 +231,7 @@ module _ (y : Layout) (law : Lawful (y .system)) (start : List ℕ) (fits : Fit 
       ledger₂ = ledger-hands .with-jobs (raise a x wants (ledger₁ .jobs)) ledger₁
 
       open₁ : is-open (ledger₁ .jobs .status a) ≡ true
-      open₁ = ap is-open status₁ ∙ open-a
+      open₁ = ap is-open (older₁ a (omega arith)) ∙ open-a
 
       alone₁ : (i : ℕ) → (i ≡ a → ⊥) → y .system .stands (ledger₁ .jobs .mode i x) wants ≡ true
       alone₁ i d =
@@ -254,7 +268,11 @@ module _ (y : Layout) (law : Lawful (y .system)) (start : List ℕ) (fits : Fit 
           ; model = next .model
           ; complete = next .complete
           ; kept = next .kept
-          ; status = next .status ∙ status₁
+          ; older = λ i h. next .older i h ∙ older₁ i h
+          ; stopped =
+              λ c.
+                  let b = next .stopped c in
+                  (b .0, b .1, ap is-ended (sym (older₁ (b .0) (omega (arith, b .1)))) ∙ b .2)
           ; still =
               λ z part h.
                   next .still z part
@@ -292,7 +310,8 @@ module _ (y : Layout) (law : Lawful (y .system)) (start : List ℕ) (fits : Fit 
       ; model = refl
       ; complete = refl
       ; kept = kept
-      ; status = refl
+      ; older = λ i h. refl
+      ; stopped = λ c. absurd (both-ways true c refl)
       ; still = λ z part h. h
       ; covers = λ _. inr refl
       }
@@ -313,7 +332,8 @@ module _ (y : Layout) (law : Lawful (y .system)) (start : List ℕ) (fits : Fit 
           ; model = refl
           ; complete = refl
           ; kept = kept
-          ; status = refl
+          ; older = λ i h. refl
+          ; stopped = λ c. absurd (both-ways true c refl)
           ; still = λ z part h. h
           ; covers = λ _. inl (or-left (has s m (s .full k)) (has s m (s .intent k) && covered s (l .jobs .mode a) k xs) full)
           })
@@ -336,7 +356,7 @@ module _ (y : Layout) (law : Lawful (y .system)) (start : List ℕ) (fits : Fit 
                   ; complete = false
                   })
                   (walk-stops ledger-hands s k g a x xs l full differs held) (walk-stops model-hands s k g a x xs mo full differs held)
-                  (on-stop x xs l ws notes kept open-a ends full)
+                  (on-stop x xs l ws notes kept open-a ends full held)
               | inr free ↦
                   let l₂ = ledger₂ x xs l ws notes kept open-a ends full free in
                   let w₁ = words₁ x xs l ws notes kept open-a ends full in
