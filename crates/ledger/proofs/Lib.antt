@@ -9,3 +9,4 @@ pub mod Kept
 pub mod Walking
 pub mod Moves
 pub mod Serves
+pub mod Promised

@@ -5,3 +5,4 @@ pub mod Ledgers
 pub mod Promises
 pub mod Models
 pub mod Collisions
+pub mod Theorems

@@ -8,6 +8,7 @@
 // locks are taken), `Ledgers` (what calls do to jobs), `Promises` (what is promised), `Models` (what an engine has to
 // keep in order to promise it), `Theorems`, `Stories`.
 pub mod call;
+pub mod promises;
 pub mod refusal;
 
 pub use call::Answer;
