@@ -23,7 +23,13 @@ fn denies(heap: Global, text: &[u8], reason: &str) -> Result<bool, Fail> {
 #[test]
 fn inputs_that_run(rt: LibcRuntime) -> Result<(), Fail> {
     let heap = rt.alloc();
-    check(runs(heap, b"1 2\n0\n4294967295\na0=5 r0\n", "1 done\n2 read 4 1\nend 4\n")?)?;
+    check(
+        runs(
+            heap,
+            b"1 2\n0\n4294967295\na0=5 r0\n",
+            "1 done\n2 read 4 1\nend 4\n",
+        )?,
+    )?;
     check(runs(heap, b"3 1\n0 0 0\n9 2 3\nm0\n", "1 mean 3\nend 9 2 3\n")?)?;
     check(runs(heap, b"1 0\n0\n7\n\n", "end 7\n")?)
 }
@@ -46,5 +52,11 @@ fn entries_that_are_bad(rt: LibcRuntime) -> Result<(), Fail> {
 fn tables_that_are_refused(rt: LibcRuntime) -> Result<(), Fail> {
     let heap = rt.alloc();
     check(denies(heap, b"2 0\n0 1\n0 0\n\n", "refused 11\n")?)?;
-    check(denies(heap, b"9 0\n0 0 1 2 3 4 5 6 7\n0 0 0 0 0 0 0 0 0\n\n", "refused 12\n")?)
+    check(
+        denies(
+            heap,
+            b"9 0\n0 0 1 2 3 4 5 6 7\n0 0 0 0 0 0 0 0 0\n\n",
+            "refused 12\n",
+        )?,
+    )
 }

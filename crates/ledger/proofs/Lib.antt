@@ -10,3 +10,4 @@ pub mod Walking
 pub mod Moves
 pub mod Serves
 pub mod Promised
+pub mod Stories

@@ -42,14 +42,14 @@ module _ (ps : List ℕ) where
   -- a job without its steps is apart from all
   pub pairwise-clear : (f : ℕ → List Step) → Pairwise ps f → (k : ℕ) → Pairwise ps (put k [] f)
   pairwise-clear f h k i j n =
-      elim (cases-eq i k)
-      [ inl e ↦ subst (λ (xs : List Step). Lists-apart ps xs (put k [] f j)) (sym (put-at k [] f i e)) tt
-      | inr e ↦
-          subst (λ (xs : List Step). Lists-apart ps xs (put k [] f j)) (sym (put-other k [] f i e))
-          (elim (cases-eq j k)
-          [ inl d ↦ subst (λ (ys : List Step). Lists-apart ps (f i) ys) (sym (put-at k [] f j d)) (apart-none ps (f i))
-          | inr d ↦ subst (λ (ys : List Step). Lists-apart ps (f i) ys) (sym (put-other k [] f j d)) (h i j n)
-          ])
+      elim (cases-eq i k) [
+        | inl e ↦ subst (λ (xs : List Step). Lists-apart ps xs (put k [] f j)) (sym (put-at k [] f i e)) tt
+        | inr e ↦
+            subst (λ (xs : List Step). Lists-apart ps xs (put k [] f j)) (sym (put-other k [] f i e))
+            (elim (cases-eq j k) [
+              | inl d ↦ subst (λ (ys : List Step). Lists-apart ps (f i) ys) (sym (put-at k [] f j d)) (apart-none ps (f i))
+              | inr d ↦ subst (λ (ys : List Step). Lists-apart ps (f i) ys) (sym (put-other k [] f j d)) (h i j n)
+            ])
       ]
 
   pub apart-pile : (ss : List Step) (f : ℕ → List Step) (n : ℕ) → ((k : ℕ) → k < n → Lists-apart ps ss (f k)) → Lists-apart ps ss (pile f n)
@@ -58,40 +58,40 @@ module _ (ps : List ℕ) where
 
   -- one job last
   pub last :
-    (f : ℕ → List Step) → Pairwise ps f → (k n : ℕ) → k < n → (rest : List Step)
-    → Same ps (pile f n ++ rest) (pile (put k [] f) n ++ (f k ++ rest))
+      (f : ℕ → List Step) → Pairwise ps f → (k n : ℕ) → k < n → (rest : List Step)
+      → Same ps (pile f n ++ rest) (pile (put k [] f) n ++ (f k ++ rest))
   last f h k zero l rest = absurd (omega arith)
   last f h k (suc n) l rest =
       let g = put k [] f in
-      elim (cases-eq k n)
-      [ inl e ↦
-          let same : pile g n ≡ pile f n = pile-ext g f n (λ j m. put-other k [] f j (λ (z : j ≡ k). omega arith)) in
-          let gone : g n ≡ [] = put-at k [] f n (sym e) in
-          same-is ps ((pile f n ++ f n) ++ rest) ((pile g n ++ g n) ++ (f k ++ rest))
-          ( append-assoc (pile f n) (f n) rest
+      elim (cases-eq k n) [
+        | inl e ↦
+            let same : pile g n ≡ pile f n = pile-ext g f n (λ j m. put-other k [] f j (λ (z : j ≡ k). omega arith)) in
+            let gone : g n ≡ [] = put-at k [] f n (sym e) in
+            same-is ps ((pile f n ++ f n) ++ rest) ((pile g n ++ g n) ++ (f k ++ rest))
+            (append-assoc (pile f n) (f n) rest
             ∙ ap (λ (x : ℕ). pile f n ++ (f x ++ rest)) (sym e)
             ∙ ap (λ (xs : List Step). xs ++ (f k ++ rest)) (sym same)
             ∙ ap (λ (xs : List Step). xs ++ (f k ++ rest)) (sym (append-nil (pile g n)))
             ∙ ap (λ (xs : List Step). (pile g n ++ xs) ++ (f k ++ rest)) (sym gone)
-          )
-      | inr e ↦
-          let kept : g n ≡ f n = put-other k [] f n (λ (z : n ≡ k). e (sym z)) in
-          same-trans ps ((pile f n ++ f n) ++ rest) (pile f n ++ (f n ++ rest)) ((pile g n ++ g n) ++ (f k ++ rest))
-          (same-is ps ((pile f n ++ f n) ++ rest) (pile f n ++ (f n ++ rest)) (append-assoc (pile f n) (f n) rest))
-          (same-trans ps (pile f n ++ (f n ++ rest)) (pile g n ++ (f k ++ (f n ++ rest))) ((pile g n ++ g n) ++ (f k ++ rest))
-          (last f h k n (omega arith) (f n ++ rest))
-          (same-trans ps (pile g n ++ (f k ++ (f n ++ rest))) (pile g n ++ (f n ++ (f k ++ rest))) ((pile g n ++ g n) ++ (f k ++ rest))
-          (same-after ps (pile g n) (f k ++ (f n ++ rest)) (f n ++ (f k ++ rest)) (same-exchange ps (f k) (f n) rest (h k n e)))
-          (same-is ps (pile g n ++ (f n ++ (f k ++ rest))) ((pile g n ++ g n) ++ (f k ++ rest))
-          ( sym (append-assoc (pile g n) (f n) (f k ++ rest))
+            )
+        | inr e ↦
+            let kept : g n ≡ f n = put-other k [] f n (λ (z : n ≡ k). e (sym z)) in
+            same-trans ps ((pile f n ++ f n) ++ rest) (pile f n ++ (f n ++ rest)) ((pile g n ++ g n) ++ (f k ++ rest))
+            (same-is ps ((pile f n ++ f n) ++ rest) (pile f n ++ (f n ++ rest)) (append-assoc (pile f n) (f n) rest))
+            (same-trans ps (pile f n ++ (f n ++ rest)) (pile g n ++ (f k ++ (f n ++ rest))) ((pile g n ++ g n) ++ (f k ++ rest))
+            (last f h k n (omega arith) (f n ++ rest))
+            (same-trans ps (pile g n ++ (f k ++ (f n ++ rest))) (pile g n ++ (f n ++ (f k ++ rest))) ((pile g n ++ g n) ++ (f k ++ rest))
+            (same-after ps (pile g n) (f k ++ (f n ++ rest)) (f n ++ (f k ++ rest)) (same-exchange ps (f k) (f n) rest (h k n e)))
+            (same-is ps (pile g n ++ (f n ++ (f k ++ rest))) ((pile g n ++ g n) ++ (f k ++ rest))
+            (sym (append-assoc (pile g n) (f n) (f k ++ rest))
             ∙ ap (λ (xs : List Step). (pile g n ++ xs) ++ (f k ++ rest)) (sym kept)
-          ))))
+            ))))
       ]
 
   -- one job first
   pub first :
-    (f : ℕ → List Step) → Pairwise ps f → (k n : ℕ) → k < n → (rest : List Step)
-    → Same ps (pile f n ++ rest) (f k ++ (pile (put k [] f) n ++ rest))
+      (f : ℕ → List Step) → Pairwise ps f → (k n : ℕ) → k < n → (rest : List Step)
+      → Same ps (pile f n ++ rest) (f k ++ (pile (put k [] f) n ++ rest))
   first f h k n l rest =
       let g = put k [] f in
       same-trans ps (pile f n ++ rest) (pile g n ++ (f k ++ rest)) (f k ++ (pile g n ++ rest)) (last f h k n l rest)
@@ -99,7 +99,7 @@ module _ (ps : List ℕ) where
       (apart-sym ps (f k) (pile g n)
       (apart-pile (f k) g n
       (λ j m.
-          elim (cases-eq j k)
-          [ inl e ↦ subst (λ (xs : List Step). Lists-apart ps (f k) xs) (sym (put-at k [] f j e)) (apart-none ps (f k))
-          | inr e ↦ subst (λ (xs : List Step). Lists-apart ps (f k) xs) (sym (put-other k [] f j e)) (h k j (λ (z : k ≡ j). e (sym z)))
-          ]))))
+      elim (cases-eq j k) [
+        | inl e ↦ subst (λ (xs : List Step). Lists-apart ps (f k) xs) (sym (put-at k [] f j e)) (apart-none ps (f k))
+        | inr e ↦ subst (λ (xs : List Step). Lists-apart ps (f k) xs) (sym (put-other k [] f j e)) (h k j (λ (z : k ≡ j). e (sym z)))
+      ]))))

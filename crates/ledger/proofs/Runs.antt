@@ -17,7 +17,7 @@ effect ps (s ∷ ss) r w = effect ps ss r (left-at ps (s .0) r w)
 
 module _ (ps : List ℕ) where
   pub split :
-    (xs ys : List Step) (ws out : List ℕ) → Alone ps ws (xs ++ ys) out → (mid : List ℕ) × Alone ps ws xs mid × Alone ps mid ys out
+      (xs ys : List Step) (ws out : List ℕ) → Alone ps ws (xs ++ ys) out → (mid : List ℕ) × Alone ps ws xs mid × Alone ps mid ys out
   split [] ys ws out a = (ws, refl, a)
   split (x ∷ xs) ys ws out a =
       let r = split xs ys (after ps (x .0) ws) out (a .1) in
@@ -63,7 +63,7 @@ module _ (ps : List ℕ) where
   apart-none (t ∷ ts) = (tt, apart-none ts)
 
   cons-apart :
-    (s : Step) (ss ts : List Step) → All (λ t. Apart ps (t .0) (s .0)) ts → Lists-apart ps ts ss → Lists-apart ps ts (s ∷ ss)
+      (s : Step) (ss ts : List Step) → All (λ t. Apart ps (t .0) (s .0)) ts → Lists-apart ps ts ss → Lists-apart ps ts (s ∷ ss)
   cons-apart s ss [] h k = tt
   cons-apart s ss (t ∷ ts) h k = ((h .0, k .0), cons-apart s ss ts (h .1) (k .1))
 
@@ -87,10 +87,10 @@ module _ (ps : List ℕ) where
   Same xs ys = Alike xs ys × Alike ys xs
 
   pub same-is : (xs ys : List Step) → xs ≡ ys → Same xs ys
-  same-is xs ys e =
-      ( λ ws out a. subst (λ (z : List Step). Alone ps ws z out) e a
-      , λ ws out a. subst (λ (z : List Step). Alone ps ws z out) (sym e) a
-      )
+  same-is xs ys e = (
+    λ ws out a. subst (λ (z : List Step). Alone ps ws z out) e a,
+    λ ws out a. subst (λ (z : List Step). Alone ps ws z out) (sym e) a,
+  )
 
   pub same-sym : (xs ys : List Step) → Same xs ys → Same ys xs
   same-sym xs ys h = (h .1, h .0)
@@ -114,7 +114,7 @@ module _ (ps : List ℕ) where
   run-length (x ∷ xs) ws out a = run-length xs (after ps (x .0) ws) out (a .1) ∙ length-after ps (x .0) ws
 
   pub run-at :
-    (xs : List Step) (ws out : List ℕ) → Alone ps ws xs out → (r : ℕ) → r < length ws → getD out r 0 ≡ effect ps xs r (getD ws r 0)
+      (xs : List Step) (ws out : List ℕ) → Alone ps ws xs out → (r : ℕ) → r < length ws → getD out r 0 ≡ effect ps xs r (getD ws r 0)
   run-at [] ws out a r h = let e : out ≡ ws = a in ap (λ (z : List ℕ). getD z r 0) e
   run-at (x ∷ xs) ws out a r h =
       run-at xs (after ps (x .0) ws) out (a .1) r (omega (arith, length-after ps (x .0) ws))

@@ -43,15 +43,17 @@ use Rattle.ledger.proofs.Moves.{turn-kept, open-kept, commit-kept, giveup-kept
 first-none : (p : Refusal → Bool) (rs : List Refusal) → first-of p rs ≡ None → All (λ r. p r ≡ false) rs
 first-none p [] e = tt
 first-none p (r ∷ rs) e =
-    elim (cases-bool (p r))
-    [ inl t ↦ absurd (clash r (sym (found t) ∙ e))
-    | inr t ↦ (t, first-none p rs (sym (missed t) ∙ e))
+    elim (cases-bool (p r)) [
+      | inl t ↦ absurd (clash r (sym (found t) ∙ e))
+      | inr t ↦ (t, first-none p rs (sym (missed t) ∙ e))
     ]
   where
     found : p r ≡ true → first-of p (r ∷ rs) ≡ Some r
     found t = rw (t, first-of)
+
     missed : p r ≡ false → first-of p (r ∷ rs) ≡ first-of p rs
     missed t = rw (t, first-of)
+
     clash : (r : Refusal) → Some r ≡ None → ⊥
     clash r c = let z : _≡_ {A = ℕ} 0 1 = cc in omega arith
 
@@ -129,31 +131,31 @@ module _ (y : Layout) (law : Lawful (y .system)) (f : Falls (y .parents)) (start
     covers : wl .complete ≡ true → covered (y .system) (wl .left .jobs .mode j) (kind (o .action)) (path (y .parents) (o .granule)) ≡ true
 
   attempted :
-    (j : ℕ) (o : Operation) → is-open (l .jobs .status j) ≡ true
-    → Attempted j o (attempt ledger-hands y j o l) (attempt model-hands y j o (model-of l ws notes))
+      (j : ℕ) (o : Operation) → is-open (l .jobs .status j) ≡ true
+      → Attempted j o (attempt ledger-hands y j o l) (attempt model-hands y j o (model-of l ws notes))
   attempted j o open-j =
       let k = kind (o .action) in
       let xs = path (y .parents) (o .granule) in
       let w =
-        walk-kept y law start fit k (o .granule) j xs l ws notes kept open-j (path-ends (y .parents) f (o .granule))
+      walk-kept y law start fit k (o .granule) j xs l ws notes kept open-j (path-ends (y .parents) f (o .granule))
       in
       let wl = walk ledger-hands (y .system) k (o .granule) j xs l in
       let st = tried-state o (wl .complete) in
       let open-now : is-open (wl .left .jobs .status j) ≡ true = ap is-open (w .older j (omega arith)) ∙ open-j in
       let ok = tried-open o (wl .complete) in
-      record
-      { words = w .words
-      ; notes′ = w .notes
-      ; model =
-          ap₂ (λ (b : Bool) (m : Model). model-hands .with-jobs (now-is j (tried-state o b) (m .jobs)) m) (w .complete) (w .model)
-      ; complete = w .complete
-      ; keeps =
-          turn-kept y law start fit (wl .left) (w .words) (w .notes) (w .kept) j st (open-not-ended (wl .left .jobs .status j) open-now)
-          (ok .1) (ok .2) (ok .0) (live-open (wl .left) j open-now)
-      ; state = put-same j st (wl .left .jobs .status)
-      ; older = λ i h. put-other j st (wl .left .jobs .status) i (λ (z : i ≡ j). omega arith) ∙ w .older i (omega arith)
-      ; stopped = w .stopped
-      ; covers = λ c. elim (w .covers c) [ inl v ↦ v | inr n ↦ absurd (path-some (y .parents) f (o .granule) n) ]
+      record {
+        words = w .words;
+        notes′ = w .notes;
+        model =
+            ap₂ (λ (b : Bool) (m : Model). model-hands .with-jobs (now-is j (tried-state o b) (m .jobs)) m) (w .complete) (w .model);
+        complete = w .complete;
+        keeps =
+            turn-kept y law start fit (wl .left) (w .words) (w .notes) (w .kept) j st (open-not-ended (wl .left .jobs .status j) open-now)
+            (ok .1) (ok .2) (ok .0) (live-open (wl .left) j open-now);
+        state = put-same j st (wl .left .jobs .status);
+        older = λ i h. put-other j st (wl .left .jobs .status) i (λ (z : i ≡ j). omega arith) ∙ w .older i (omega arith);
+        stopped = w .stopped;
+        covers = λ c. elim (w .covers c) [ inl v ↦ v | inr n ↦ absurd (path-some (y .parents) f (o .granule) n) ];
       }
 
   -- What a call leaves and says, next to the ledger after it.
@@ -164,8 +166,8 @@ module _ (y : Layout) (law : Lawful (y .system)) (f : Falls (y .parents)) (start
     pub keeps : Kept y start l′ words notes′
     pub right : By-refusal r said (Granted y l c said)
     pub oldest :
-      (k : ℕ) → Oldest (l .jobs) k
-      → (is-wounded (l .jobs .status k) ≡ false → is-wounded (l′ .jobs .status k) ≡ false) × (job-of c ≡ k → said ≡ Waits → ⊥)
+        (k : ℕ) → Oldest (l .jobs) k
+        → (is-wounded (l .jobs .status k) ≡ false → is-wounded (l′ .jobs .status k) ≡ false) × (job-of c ≡ k → said ≡ Waits → ⊥)
 
   module _ (j : ℕ) (o : Operation) (open-j : is-open (l .jobs .status j) ≡ true) where
     abbrev mo : Model
@@ -182,10 +184,10 @@ module _ (y : Layout) (law : Lawful (y .system)) (f : Falls (y .parents)) (start
 
     unhurt : (w : Attempted j o wl (attempt model-hands y j o mo)) (k : ℕ) → Oldest (l .jobs) k → is-wounded (l .jobs .status k) ≡ false → is-wounded (wl .left .jobs .status k) ≡ false
     unhurt w k old h =
-        elim (cases-eq k j)
-        [ inl e ↦
-            ap (λ (x : ℕ). is-wounded (wl .left .jobs .status x)) e ∙ ap is-wounded (w .state) ∙ tried-open o (wl .complete) .2
-        | inr e ↦ ap is-wounded (w .older k (omega (arith, not-younger k old))) ∙ h
+        elim (cases-eq k j) [
+          | inl e ↦
+              ap (λ (x : ℕ). is-wounded (wl .left .jobs .status x)) e ∙ ap is-wounded (w .state) ∙ tried-open o (wl .complete) .2
+          | inr e ↦ ap is-wounded (w .older k (omega (arith, not-younger k old))) ∙ h
         ]
 
     -- an operation tried: the same for a new one and for one that was waited for
@@ -201,65 +203,68 @@ module _ (y : Layout) (law : Lawful (y .system)) (f : Falls (y .parents)) (start
     tried-kept : Done-try (try y j o mo .left) (try y j o mo .said) (tried y j o (try y j o mo .said) l)
     tried-kept =
         let w = attempted j o open-j in
-        elim (cases-bool (wl .complete))
-        [ inl c ↦
-            let before = model-of (wl .left) (w .words) (w .notes′) in
-            let out = answer (y .parents) o (w .words) in
-            let sv : try y j o mo ≡ record { left = carried y j o before; said = Told out } =
+        elim (cases-bool (wl .complete)) [
+          | inl c ↦
+              let before = model-of (wl .left) (w .words) (w .notes′) in
+              let out = answer (y .parents) o (w .words) in
+              let sv : try y j o mo ≡ record { left = carried y j o before; said = Told out } =
               through (w .complete ∙ c) ∙ ap (λ (m : Model). record { left = carried y j o m; said = Told (answer (y .parents) o (m .words)) }) (w .model)
-            in
-            let l′ : tried y j o (try y j o mo .said) l ≡ note-step j (o, out) (wl .left) =
+              in
+              let l′ : tried y j o (try y j o mo .said) l ≡ note-step j (o, out) (wl .left) =
               noted-through (try y j o mo .said) c ∙ ap (λ (s : Served). note-step j (o, noting (s .said)) (wl .left)) sv
-            in
-            let op : is-open (wl .left .jobs .status j) ≡ true = ap is-open (w .state) ∙ tried-open o (wl .complete) .0 in
-            record
-            { words = after (y .parents) o (w .words)
-            ; notes′ =
-                put j
-                (λ r.
+              in
+              let op : is-open (wl .left .jobs .status j) ≡ true = ap is-open (w .state) ∙ tried-open o (wl .complete) .0 in
+              record {
+                words = after (y .parents) o (w .words);
+                notes′ =
+                    put j
+                    (λ r.
                     elim (record-beneath (y .parents) (o .granule) r) as (λ _. Note)
                     [ true ↦ noted (o .action) (getD (w .words) r 0) (w .notes′ j r) | false ↦ w .notes′ j r ])
-                (w .notes′)
-            ; model = ap (λ (s : Served). s .left) sv ∙ ap (λ (x : Ledger). model-of x (carried y j o before .words) (carried y j o before .notes)) (sym l′)
-            ; keeps =
-                subst
-                (λ (x : Ledger). Kept y start x (carried y j o before .words) (carried y j o before .notes)) (sym l′)
-                (carry-kept y law start fit (wl .left) (w .words) (w .notes′) (w .keeps) f j o op (w .covers c))
-            ; operated =
-                subst (λ (b : Bool). Operated b o (try y j o mo .said)) (sym c)
-                (out, ap (λ (s : Served). s .said) sv, shaped (o .action) (sum (y .parents) (w .words) (o .granule)) (records-beneath (y .parents) (o .granule)))
-            ; unwounded = λ k old h. ap (λ (x : Ledger). is-wounded (x .jobs .status k)) l′ ∙ unhurt w k old h
-            ; goes-on = λ k old e said. told-not-waits out (sym (ap (λ (s : Served). s .said) sv) ∙ said)
-            }
-        | inr c ↦
-            let wm = attempt model-hands y j o mo in
-            let sv : try y j o mo ≡ record { left = wm .left; said = Waits } = stopped-at (w .complete ∙ c) in
-            let l′ : tried y j o (try y j o mo .said) l ≡ wl .left = noted-stopped (try y j o mo .said) c in
-            record
-            { words = w .words
-            ; notes′ = w .notes′
-            ; model = ap (λ (s : Served). s .left) sv ∙ w .model ∙ ap (λ (x : Ledger). model-of x (w .words) (w .notes′)) (sym l′)
-            ; keeps = subst (λ (x : Ledger). Kept y start x (w .words) (w .notes′)) (sym l′) (w .keeps)
-            ; operated = subst (λ (b : Bool). Operated b o (try y j o mo .said)) (sym c) (ap (λ (s : Served). s .said) sv)
-            ; unwounded = λ k old h. ap (λ (x : Ledger). is-wounded (x .jobs .status k)) l′ ∙ unhurt w k old h
-            ; goes-on =
-                λ k old e said.
+                    (w .notes′);
+                model = ap (λ (s : Served). s .left) sv ∙ ap (λ (x : Ledger). model-of x (carried y j o before .words) (carried y j o before .notes)) (sym l′);
+                keeps =
+                    subst
+                    (λ (x : Ledger). Kept y start x (carried y j o before .words) (carried y j o before .notes)) (sym l′)
+                    (carry-kept y law start fit (wl .left) (w .words) (w .notes′) (w .keeps) f j o op (w .covers c));
+                operated =
+                    subst (λ (b : Bool). Operated b o (try y j o mo .said)) (sym c)
+                    (out, ap (λ (s : Served). s .said) sv, shaped (o .action) (sum (y .parents) (w .words) (o .granule)) (records-beneath (y .parents) (o .granule)));
+                unwounded = λ k old h. ap (λ (x : Ledger). is-wounded (x .jobs .status k)) l′ ∙ unhurt w k old h;
+                goes-on = λ k old e said. told-not-waits out (sym (ap (λ (s : Served). s .said) sv) ∙ said);
+              }
+          | inr c ↦
+              let wm = attempt model-hands y j o mo in
+              let sv : try y j o mo ≡ record { left = wm .left; said = Waits } = stopped-at (w .complete ∙ c) in
+              let l′ : tried y j o (try y j o mo .said) l ≡ wl .left = noted-stopped (try y j o mo .said) c in
+              record {
+                words = w .words;
+                notes′ = w .notes′;
+                model = ap (λ (s : Served). s .left) sv ∙ w .model ∙ ap (λ (x : Ledger). model-of x (w .words) (w .notes′)) (sym l′);
+                keeps = subst (λ (x : Ledger). Kept y start x (w .words) (w .notes′)) (sym l′) (w .keeps);
+                operated = subst (λ (b : Bool). Operated b o (try y j o mo .said)) (sym c) (ap (λ (s : Served). s .said) sv);
+                unwounded = λ k old h. ap (λ (x : Ledger). is-wounded (x .jobs .status k)) l′ ∙ unhurt w k old h;
+                goes-on =
+                    λ k old e said.
                     let b = w .stopped c in
-                    both-ways (is-ended (l .jobs .status (b .0))) (b .2) (old .1 (b .0) (subst (λ (x : ℕ). b .0 < x) e (b .1)))
-            }
+                    both-ways (is-ended (l .jobs .status (b .0))) (b .2) (old .1 (b .0) (subst (λ (x : ℕ). b .0 < x) e (b .1)));
+              }
         ]
       where
         through :
-          attempt model-hands y j o mo .complete ≡ true
-          → try y j o mo
+            attempt model-hands y j o mo .complete ≡ true
+            → try y j o mo
             ≡ record { left = carried y j o (attempt model-hands y j o mo .left); said = Told (answer (y .parents) o (attempt model-hands y j o mo .left .words)) }
         through e = pick-true (attempt model-hands y j o mo .complete) _ _ e
+
         stopped-at :
-          attempt model-hands y j o mo .complete ≡ false
-          → try y j o mo ≡ record { left = attempt model-hands y j o mo .left; said = Waits }
+            attempt model-hands y j o mo .complete ≡ false
+            → try y j o mo ≡ record { left = attempt model-hands y j o mo .left; said = Waits }
         stopped-at e = pick-false (attempt model-hands y j o mo .complete) _ _ e
+
         noted-through : (a : Answer) → wl .complete ≡ true → tried y j o a l ≡ note-step j (o, noting a) (wl .left)
         noted-through a e = pick-true (wl .complete) _ _ e
+
         noted-stopped : (a : Answer) → wl .complete ≡ false → tried y j o a l ≡ wl .left
         noted-stopped a e = pick-false (wl .complete) _ _ e
 
@@ -270,42 +275,42 @@ module _ (y : Layout) (law : Lawful (y .system)) (f : Falls (y .parents)) (start
   -- a job that another state has been put for is not wounded by it, nor is any other
   spared : (j : ℕ) (st : Status) → is-wounded st ≡ false → (k : ℕ) → is-wounded (l .jobs .status k) ≡ false → is-wounded (put j st (l .jobs .status) k) ≡ false
   spared j st w k h =
-      elim (cases-eq k j)
-      [ inl e ↦ ap is-wounded (put-at j st (l .jobs .status) k e) ∙ w
-      | inr e ↦ ap is-wounded (put-other j st (l .jobs .status) k e) ∙ h
+      elim (cases-eq k j) [
+        | inl e ↦ ap is-wounded (put-at j st (l .jobs .status) k e) ∙ w
+        | inr e ↦ ap is-wounded (put-other j st (l .jobs .status) k e) ∙ h
       ]
 
   by-try :
-    (c : Call) (j : ℕ) (o : Operation) (open-j : is-open (l .jobs .status j) ≡ true) → job-of c ≡ j
-    → ((said : Answer) → Operated (attempt ledger-hands y j o l .complete) o said → Granted y l c said)
-    → Moved c None (try y j o (model-of l ws notes) .left) (try y j o (model-of l ws notes) .said)
+      (c : Call) (j : ℕ) (o : Operation) (open-j : is-open (l .jobs .status j) ≡ true) → job-of c ≡ j
+      → ((said : Answer) → Operated (attempt ledger-hands y j o l .complete) o said → Granted y l c said)
+      → Moved c None (try y j o (model-of l ws notes) .left) (try y j o (model-of l ws notes) .said)
       (tried y j o (try y j o (model-of l ws notes) .said) l)
   by-try c j o open-j e g =
       let t = tried-kept j o open-j in
-      record
-      { words = t .words
-      ; notes′ = t .notes′
-      ; model = t .model
-      ; keeps = t .keeps
-      ; right = g (try y j o (model-of l ws notes) .said) (t .operated)
-      ; oldest = λ k old. (t .unwounded k old, λ who. t .goes-on k old (sym e ∙ who))
+      record {
+        words = t .words;
+        notes′ = t .notes′;
+        model = t .model;
+        keeps = t .keeps;
+        right = g (try y j o (model-of l ws notes) .said) (t .operated);
+        oldest = λ k old. (t .unwounded k old, λ who. t .goes-on k old (sym e ∙ who));
       }
 
   granted-kept :
-    (c : Call) → No-row c
-    → Moved c None (grant y c (model-of l ws notes) .left) (grant y c (model-of l ws notes) .said)
+      (c : Call) → No-row c
+      → Moved c None (grant y c (model-of l ws notes) .left) (grant y c (model-of l ws notes) .said)
       (granted y c (grant y c (model-of l ws notes) .said) l)
   granted-kept (Lay parents words) none = absurd (both-ways true (none .1 .1 .1 .1 .1 .1 .1 .1 .1 .0) refl)
   granted-kept Open none =
-      record
-      { words = ws
-      ; notes′ = notes
-      ; model = refl
-      ; keeps = open-kept y law start fit l ws notes kept
-      ; right = refl
-      ; oldest =
-          λ k old.
-              (spared (suc (l .jobs .opened)) working refl k, λ who said. job-not-waits (suc (l .jobs .opened)) said)
+      record {
+        words = ws;
+        notes′ = notes;
+        model = refl;
+        keeps = open-kept y law start fit l ws notes kept;
+        right = refl;
+        oldest =
+            λ k old.
+            (spared (suc (l .jobs .opened)) working refl k, λ who said. job-not-waits (suc (l .jobs .opened)) said);
       }
   granted-kept (Carry j o) none =
       by-try (Carry j o) j o (still-open (l .jobs .status j) (none .1 .1 .1 .0) (none .1 .1 .1 .1 .0)) refl (λ said h. h)
@@ -314,64 +319,64 @@ module _ (y : Layout) (law : Lawful (y .system)) (f : Falls (y .parents)) (start
   granted-kept (Again j) none =
       let w = not-false (is-wounded (l .jobs .status j)) (none .1 .1 .1 .1 .1 .1 .1 .1 .0) in
       let lives = wounded-lives (l .jobs .status j) w in
-      record
-      { words = ws
-      ; notes′ = notes
-      ; model = refl
-      ; keeps =
-          turn-kept y law start fit l ws notes kept j working (lives .0) refl refl refl (live-shut l j (lives .1) ∙ sym (kept .clean j w))
-      ; right = refl
-      ; oldest = λ k old. (spared j working refl k, λ who said. told-not-waits Done said)
+      record {
+        words = ws;
+        notes′ = notes;
+        model = refl;
+        keeps =
+            turn-kept y law start fit l ws notes kept j working (lives .0) refl refl refl (live-shut l j (lives .1) ∙ sym (kept .clean j w));
+        right = refl;
+        oldest = λ k old. (spared j working refl k, λ who said. told-not-waits Done said);
       }
   granted-kept (Commit j) none =
-      record
-      { words = ws
-      ; notes′ = put j (λ _. nothing) notes
-      ; model = refl
-      ; keeps =
-          commit-kept y law start fit l ws notes kept j (none .1 .1 .1 .0)
-          (still-open (l .jobs .status j) (none .1 .1 .1 .0) (none .1 .1 .1 .1 .0))
-      ; right = refl
-      ; oldest = λ k old. (spared j ended refl k, λ who said. told-not-waits Done said)
+      record {
+        words = ws;
+        notes′ = put j (λ _. nothing) notes;
+        model = refl;
+        keeps =
+            commit-kept y law start fit l ws notes kept j (none .1 .1 .1 .0)
+            (still-open (l .jobs .status j) (none .1 .1 .1 .0) (none .1 .1 .1 .1 .0));
+        right = refl;
+        oldest = λ k old. (spared j ended refl k, λ who said. told-not-waits Done said);
       }
   granted-kept (GiveUp j) none =
-      record
-      { words = _
-      ; notes′ = put j (λ _. nothing) notes
-      ; model = refl
-      ; keeps = giveup-kept y law start fit l ws notes kept j (none .1 .1 .1 .0)
-      ; right = refl
-      ; oldest = λ k old. (spared j ended refl k, λ who said. told-not-waits Done said)
+      record {
+        words = _;
+        notes′ = put j (λ _. nothing) notes;
+        model = refl;
+        keeps = giveup-kept y law start fit l ws notes kept j (none .1 .1 .1 .0);
+        right = refl;
+        oldest = λ k old. (spared j ended refl k, λ who said. told-not-waits Done said);
       }
   granted-kept (Look g) none =
-      record
-      { words = ws
-      ; notes′ = notes
-      ; model = refl
-      ; keeps = kept
-      ; right = refl
-      ; oldest = λ k old. ((λ h. h), λ who said. head-not-waits _ _ said)
+      record {
+        words = ws;
+        notes′ = notes;
+        model = refl;
+        keeps = kept;
+        right = refl;
+        oldest = λ k old. ((λ h. h), λ who said. head-not-waits _ _ said);
       }
 
   -- A call, refused or not.
   pub served-kept :
-    (c : Call)
-    → Moved c (refusal (facts y (l .jobs)) c) (serve y c (model-of l ws notes) .left) (serve y c (model-of l ws notes) .said)
+      (c : Call)
+      → Moved c (refusal (facts y (l .jobs)) c) (serve y c (model-of l ws notes) .left) (serve y c (model-of l ws notes) .said)
       (next y l (c, serve y c (model-of l ws notes) .said))
   served-kept c = by-row (refusal (facts y (l .jobs)) c) refl
     where
       by-row :
-        (r : Option Refusal) → refusal (facts y (l .jobs)) c ≡ r
-        → Moved c r (refused-or r (model-of l ws notes) (grant y c (model-of l ws notes)) .left)
+          (r : Option Refusal) → refusal (facts y (l .jobs)) c ≡ r
+          → Moved c r (refused-or r (model-of l ws notes) (grant y c (model-of l ws notes)) .left)
           (refused-or r (model-of l ws notes) (grant y c (model-of l ws notes)) .said)
           (unless-refused r l (granted y c (refused-or r (model-of l ws notes) (grant y c (model-of l ws notes)) .said) l))
       by-row (Some r) e =
-          record
-          { words = ws
-          ; notes′ = notes
-          ; model = refl
-          ; keeps = kept
-          ; right = refl
-          ; oldest = λ k old. ((λ h. h), λ who said. refused-not-waits r said)
+          record {
+            words = ws;
+            notes′ = notes;
+            model = refl;
+            keeps = kept;
+            right = refl;
+            oldest = λ k old. ((λ h. h), λ who said. refused-not-waits r said);
           }
       by-row None e = granted-kept c (first-none (λ r. among (number r) (can-meet c) && fits (facts y (l .jobs)) c r) rows e)

@@ -66,18 +66,18 @@ module _ (ps : List ℕ) where
 
   left-comm : (o p : Operation) → Apart ps o p → (r w : ℕ) → left-at ps o r (left-at ps p r w) ≡ left-at ps p r (left-at ps o r w)
   left-comm o p h r w =
-      elim (cases-bool (record-beneath ps (o .granule) r))
-      [ inl a ↦
-          elim (cases-bool (record-beneath ps (p .granule) r))
-          [ inl b ↦
-              left-in o r (left-at ps p r w) a
-              ∙ ap (changed (o .action)) (left-in p r w b)
-              ∙ changed-comm (o .action) (p .action) w (h r a b)
-              ∙ ap (changed (p .action)) (sym (left-in o r w a))
-              ∙ sym (left-in p r (left-at ps o r w) b)
-          | inr b ↦ ap (left-at ps o r) (left-out p r w b) ∙ sym (left-out p r (left-at ps o r w) b)
-          ]
-      | inr a ↦ left-out o r (left-at ps p r w) a ∙ ap (left-at ps p r) (sym (left-out o r w a))
+      elim (cases-bool (record-beneath ps (o .granule) r)) [
+        | inl a ↦
+            elim (cases-bool (record-beneath ps (p .granule) r)) [
+              | inl b ↦
+                  left-in o r (left-at ps p r w) a
+                  ∙ ap (changed (o .action)) (left-in p r w b)
+                  ∙ changed-comm (o .action) (p .action) w (h r a b)
+                  ∙ ap (changed (p .action)) (sym (left-in o r w a))
+                  ∙ sym (left-in p r (left-at ps o r w) b)
+              | inr b ↦ ap (left-at ps o r) (left-out p r w b) ∙ sym (left-out p r (left-at ps o r w) b)
+            ]
+        | inr a ↦ left-out o r (left-at ps p r w) a ∙ ap (left-at ps p r) (sym (left-out o r w a))
       ]
 
   pub length-after : (o : Operation) (ws : List ℕ) → length (after ps o ws) ≡ length ws
@@ -97,43 +97,43 @@ module _ (ps : List ℕ) where
       ∙ sym (each-each 0 (left-at ps p) (left-at ps o) ws)
     where
       each-each :
-        (i : ℕ) (f g : ℕ → ℕ → ℕ) (ws : List ℕ) → each-from i f (each-from i g ws) ≡ each-from i (λ k w. f k (g k w)) ws
+          (i : ℕ) (f g : ℕ → ℕ → ℕ) (ws : List ℕ) → each-from i f (each-from i g ws) ≡ each-from i (λ k w. f k (g k w)) ws
       each-each i f g [] = refl
       each-each i f g (w ∷ ws) = ap (λ (xs : List ℕ). f i (g i w) ∷ xs) (each-each (suc i) f g ws)
 
   sum-cong :
-    (n : ℕ) (f : ℕ → Bool) (a b : ℕ → ℕ) → ((k : ℕ) → f k ≡ true → a k ≡ b k) → sum-below n f a ≡ sum-below n f b
+      (n : ℕ) (f : ℕ → Bool) (a b : ℕ → ℕ) → ((k : ℕ) → f k ≡ true → a k ≡ b k) → sum-below n f a ≡ sum-below n f b
   sum-cong zero f a b h = refl
   sum-cong (suc n) f a b h =
       let rest = sum-cong n f a b h in
-      elim (cases-bool (f n))
-      [ inl e ↦
-          let l = cond-true (f n) (a n) 0 e in
-          let r = cond-true (f n) (b n) 0 e in
-          let same = h n e in
-          omega arith
-      | inr e ↦
-          let l = cond-false (f n) (a n) 0 e in
-          let r = cond-false (f n) (b n) 0 e in
-          omega arith
+      elim (cases-bool (f n)) [
+        | inl e ↦
+            let l = cond-true (f n) (a n) 0 e in
+            let r = cond-true (f n) (b n) 0 e in
+            let same = h n e in
+            omega arith
+        | inr e ↦
+            let l = cond-false (f n) (a n) 0 e in
+            let r = cond-false (f n) (b n) 0 e in
+            omega arith
       ]
 
   -- what a read meets is not changed by an operation that is apart from it
   sum-still :
-    (p o : Operation) → Apart ps p o → commutes (kind (p .action)) Reading ≡ true → (ws : List ℕ)
-    → sum ps (after ps o ws) (p .granule) ≡ sum ps ws (p .granule)
+      (p o : Operation) → Apart ps p o → commutes (kind (p .action)) Reading ≡ true → (ws : List ℕ)
+      → sum ps (after ps o ws) (p .granule) ≡ sum ps ws (p .granule)
   sum-still p o h e ws =
       sum-cong (length ps) (record-beneath ps (p .granule)) (λ r. getD (after ps o ws) r 0) (λ r. getD ws r 0)
       (λ r b.
-          elim (cases-lt r (length ws))
-          [ inl l ↦
-              word-after o ws r l
-              ∙ elim (cases-bool (record-beneath ps (o .granule) r))
-                [ inl c ↦ left-in o r (getD ws r 0) c ∙ reads-still (o .action) (getD ws r 0) (read-kind (kind (p .action)) (kind (o .action)) e (h r b c))
-                | inr c ↦ left-out o r (getD ws r 0) c
-                ]
-          | inr l ↦ getD-past (after ps o ws) r 0 (omega (arith, length-after o ws)) ∙ sym (getD-past ws r 0 l)
-          ])
+      elim (cases-lt r (length ws)) [
+        | inl l ↦
+            word-after o ws r l
+            ∙ elim (cases-bool (record-beneath ps (o .granule) r)) [
+              | inl c ↦ left-in o r (getD ws r 0) c ∙ reads-still (o .action) (getD ws r 0) (read-kind (kind (p .action)) (kind (o .action)) e (h r b c))
+              | inr c ↦ left-out o r (getD ws r 0) c
+            ]
+        | inr l ↦ getD-past (after ps o ws) r 0 (omega (arith, length-after o ws)) ∙ sym (getD-past ws r 0 l)
+      ])
     where
       read-kind : (k l : Kind) → commutes k Reading ≡ true → commutes k l ≡ true → commutes Reading l ≡ true
       read-kind Reading l a b = b
@@ -145,8 +145,10 @@ module _ (ps : List ℕ) where
     where
       count : ℕ
       count = records-beneath ps (p .granule)
+
       there : List ℕ → ℕ
       there xs = sum ps xs (p .granule)
+
       by-action : (a : Action) → p .action ≡ a → answer ps p (after ps o ws) ≡ answer ps p ws
       by-action Read e =
           ap (λ (s : ℕ). told (p .action) s count)
@@ -159,11 +161,12 @@ module _ (ps : List ℕ) where
 
   -- two steps change places
   pub swap :
-    (s t : Step) (rest : List Step) (ws out : List ℕ) → Apart ps (s .0) (t .0) → Alone ps ws (s ∷ t ∷ rest) out
-    → Alone ps ws (t ∷ s ∷ rest) out
-  swap s t rest ws out h a =
-      ( a .1 .0 ∙ answer-still (t .0) (s .0) (apart-comm ps (s .0) (t .0) h) ws
-      , ( a .0 ∙ sym (answer-still (s .0) (t .0) h ws)
-        , subst (λ (xs : List ℕ). Alone ps xs rest out) (after-comm (t .0) (s .0) (apart-comm ps (s .0) (t .0) h) ws) (a .1 .1)
-        )
-      )
+      (s t : Step) (rest : List Step) (ws out : List ℕ) → Apart ps (s .0) (t .0) → Alone ps ws (s ∷ t ∷ rest) out
+      → Alone ps ws (t ∷ s ∷ rest) out
+  swap s t rest ws out h a = (
+    a .1 .0 ∙ answer-still (t .0) (s .0) (apart-comm ps (s .0) (t .0) h) ws,
+    (
+      a .0 ∙ sym (answer-still (s .0) (t .0) h ws),
+      subst (λ (xs : List ℕ). Alone ps xs rest out) (after-comm (t .0) (s .0) (apart-comm ps (s .0) (t .0) h) ws) (a .1 .1),
+    ),
+  )

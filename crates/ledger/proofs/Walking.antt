@@ -32,26 +32,26 @@ module _ {S : Type 0} (h : Hands S) (s : System) (k : Kind) (g a x : ℕ) (xs : 
   walk-covered e = rw (e, walk)
 
   walk-same :
-    has s (h .jobs st .mode a x) (s .full k) ≡ false → eqb (target s k g x (h .jobs st .mode a x)) (h .jobs st .mode a x) ≡ true
-    → walk h s k g a (x ∷ xs) st ≡ walk h s k g a xs st
+      has s (h .jobs st .mode a x) (s .full k) ≡ false → eqb (target s k g x (h .jobs st .mode a x)) (h .jobs st .mode a x) ≡ true
+      → walk h s k g a (x ∷ xs) st ≡ walk h s k g a xs st
   walk-same e f = rw (e, f, walk)
 
   walk-stops :
-    has s (h .jobs st .mode a x) (s .full k) ≡ false → eqb (target s k g x (h .jobs st .mode a x)) (h .jobs st .mode a x) ≡ false
-    → some-below a (blocks s (h .jobs st) a x (target s k g x (h .jobs st .mode a x))) ≡ true
-    → walk h s k g a (x ∷ xs) st
+      has s (h .jobs st .mode a x) (s .full k) ≡ false → eqb (target s k g x (h .jobs st .mode a x)) (h .jobs st .mode a x) ≡ false
+      → some-below a (blocks s (h .jobs st) a x (target s k g x (h .jobs st .mode a x))) ≡ true
+      → walk h s k g a (x ∷ xs) st
       ≡ record { left = h .wound (yields s (h .jobs st) a x (target s k g x (h .jobs st .mode a x))) st; complete = false }
   walk-stops e f b = rw (e, f, b, walk)
 
   walk-goes :
-    has s (h .jobs st .mode a x) (s .full k) ≡ false → eqb (target s k g x (h .jobs st .mode a x)) (h .jobs st .mode a x) ≡ false
-    → some-below a (blocks s (h .jobs st) a x (target s k g x (h .jobs st .mode a x))) ≡ false
-    → walk h s k g a (x ∷ xs) st
+      has s (h .jobs st .mode a x) (s .full k) ≡ false → eqb (target s k g x (h .jobs st .mode a x)) (h .jobs st .mode a x) ≡ false
+      → some-below a (blocks s (h .jobs st) a x (target s k g x (h .jobs st .mode a x))) ≡ false
+      → walk h s k g a (x ∷ xs) st
       ≡ walk h s k g a xs
-        (h .with-jobs
-        (raise a x (target s k g x (h .jobs st .mode a x))
-        (h .jobs (h .wound (yields s (h .jobs st) a x (target s k g x (h .jobs st .mode a x))) st)))
-        (h .wound (yields s (h .jobs st) a x (target s k g x (h .jobs st .mode a x))) st))
+      (h .with-jobs
+      (raise a x (target s k g x (h .jobs st .mode a x))
+      (h .jobs (h .wound (yields s (h .jobs st) a x (target s k g x (h .jobs st .mode a x))) st)))
+      (h .wound (yields s (h .jobs st) a x (target s k g x (h .jobs st .mode a x))) st))
   walk-goes e f b = rw (e, f, b, walk)
 
 target-at : (s : System) (k : Kind) (g x m : ℕ) → x ≡ g → target s k g x m ≡ s .join m (s .full k)
@@ -69,17 +69,17 @@ module _ (s : System) (law : Lawful s) where
   has-more m q part h =
       let e = eqb-true (s .join m part) m h in
       eq-eqb _ _
-      ( law .join-assoc m q part
-        ∙ ap (s .join m) (law .join-comm q part)
-        ∙ sym (law .join-assoc m part q)
-        ∙ ap (λ (x : ℕ). s .join x q) e
+      (law .join-assoc m q part
+      ∙ ap (s .join m) (law .join-comm q part)
+      ∙ sym (law .join-assoc m part q)
+      ∙ ap (λ (x : ℕ). s .join x q) e
       )
 
   target-rises : (k : Kind) (g x m part : ℕ) → has s m part ≡ true → has s (target s k g x m) part ≡ true
   target-rises k g x m part h =
-      elim (cases-eq x g)
-      [ inl e ↦ ap (λ (t : ℕ). has s t part) (target-at s k g x m e) ∙ has-more m (s .full k) part h
-      | inr e ↦ ap (λ (t : ℕ). has s t part) (target-above s k g x m e) ∙ has-more m (s .intent k) part h
+      elim (cases-eq x g) [
+        | inl e ↦ ap (λ (t : ℕ). has s t part) (target-at s k g x m e) ∙ has-more m (s .full k) part h
+        | inr e ↦ ap (λ (t : ℕ). has s t part) (target-above s k g x m e) ∙ has-more m (s .intent k) part h
       ]
 
 -- the last granule of a list is g
@@ -119,8 +119,8 @@ pub record Stepped (y : Layout) (start : List ℕ) (k : Kind) (a : ℕ) (l : Led
   pub covers : wl .complete ≡ true → (covered (y .system) (wl .left .jobs .mode a) k xs ≡ true) ⊎ (xs ≡ [])
 
 stepped-as :
-  (y : Layout) (start : List ℕ) (k : Kind) (a : ℕ) (l : Ledger) (xs : List ℕ) (wl wl′ : Walked Ledger) (wm wm′ : Walked Model)
-  → wl ≡ wl′ → wm ≡ wm′ → Stepped y start k a l xs wl′ wm′ → Stepped y start k a l xs wl wm
+    (y : Layout) (start : List ℕ) (k : Kind) (a : ℕ) (l : Ledger) (xs : List ℕ) (wl wl′ : Walked Ledger) (wm wm′ : Walked Model)
+    → wl ≡ wl′ → wm ≡ wm′ → Stepped y start k a l xs wl′ wm′ → Stepped y start k a l xs wl wm
 stepped-as y start k a l xs wl wl′ wm wm′ e d h =
     subst (λ (w : Walked Ledger). Stepped y start k a l xs w wm) (sym e)
     (subst (λ (w : Walked Model). Stepped y start k a l xs wl′ w) (sym d) h)
@@ -174,55 +174,55 @@ module _ (y : Layout) (law : Lawful (y .system)) (start : List ℕ) (fits : Fit 
     still₁ z part h = ap (λ (f : ℕ → ℕ). has (y .system) (f z) part) mode₁ ∙ h
 
     on-stop :
-      some-below a (blocks (y .system) (l .jobs) a x wants) ≡ true
-      → Stepped y start k a l (x ∷ xs) (record { left = ledger₁; complete = false }) (record { left = model-of ledger₁ words₁ notes₁; complete = false })
+        some-below a (blocks (y .system) (l .jobs) a x wants) ≡ true
+        → Stepped y start k a l (x ∷ xs) (record { left = ledger₁; complete = false }) (record { left = model-of ledger₁ words₁ notes₁; complete = false })
     on-stop held =
-        record
-        { words = words₁
-        ; notes = notes₁
-        ; model = refl
-        ; complete = refl
-        ; kept = kept₁
-        ; older = older₁
-        ; stopped =
-            λ _.
-                let b = some-at a (blocks (y .system) (l .jobs) a x wants) held in
-                let old = blocks-old (y .system) law (l .jobs) a x wants (b .0) (b .2) in
-                (b .0, b .1, open-not-ended (l .jobs .status (b .0)) (way-open (b .0) (old .1)))
-        ; still = still₁
-        ; covers = λ c. absurd (both-ways false refl c)
+        record {
+          words = words₁;
+          notes = notes₁;
+          model = refl;
+          complete = refl;
+          kept = kept₁;
+          older = older₁;
+          stopped =
+              λ _.
+              let b = some-at a (blocks (y .system) (l .jobs) a x wants) held in
+              let old = blocks-old (y .system) law (l .jobs) a x wants (b .0) (b .2) in
+              (b .0, b .1, open-not-ended (l .jobs .status (b .0)) (way-open (b .0) (old .1)));
+          still = still₁;
+          covers = λ c. absurd (both-ways false refl c);
         }
 
     -- the same target needs nothing: the intent is there, and this is not yet the last granule
     on-same :
-      (wl : Walked Ledger) (wm : Walked Model) → eqb wants (l .jobs .mode a x) ≡ true → Stepped y start k a l xs wl wm
-      → Stepped y start k a l (x ∷ xs) wl wm
+        (wl : Walked Ledger) (wm : Walked Model) → eqb wants (l .jobs .mode a x) ≡ true → Stepped y start k a l xs wl wm
+        → Stepped y start k a l (x ∷ xs) wl wm
     on-same wl wm same next =
         let m = l .jobs .mode a x in
         let s = y .system in
         let above : x ≡ g → ⊥ =
-          λ e. both-ways (has s m (s .full k)) full (ap (λ (t : ℕ). eqb t m) (sym (target-at s k g x m e)) ∙ same)
+        λ e. both-ways (has s m (s .full k)) full (ap (λ (t : ℕ). eqb t m) (sym (target-at s k g x m e)) ∙ same)
         in
         let intent : has s m (s .intent k) ≡ true = ap (λ (t : ℕ). eqb t m) (sym (target-above s k g x m above)) ∙ same in
         let m′ = wl .left .jobs .mode a in
-        record
-        { words = next .words
-        ; notes = next .notes
-        ; model = next .model
-        ; complete = next .complete
-        ; kept = next .kept
-        ; older = next .older
-        ; stopped = next .stopped
-        ; still = next .still
-        ; covers =
-            λ c.
-                elim (next .covers c)
-                [ inl rest ↦
+        record {
+          words = next .words;
+          notes = next .notes;
+          model = next .model;
+          complete = next .complete;
+          kept = next .kept;
+          older = next .older;
+          stopped = next .stopped;
+          still = next .still;
+          covers =
+              λ c.
+              elim (next .covers c) [
+                | inl rest ↦
                     inl
                     (or-right (has s (m′ x) (s .full k)) (has s (m′ x) (s .intent k) && covered s m′ k xs)
                     (and-from (has s (m′ x) (s .intent k)) (covered s m′ k xs) (next .still x (s .intent k) intent) rest))
                 | inr nil ↦ absurd (above (ends-last g x xs ends nil))
-                ]
+              ];
         }
 
     -- nobody is in the way: the target becomes its mode
@@ -235,12 +235,12 @@ module _ (y : Layout) (law : Lawful (y .system)) (start : List ℕ) (fits : Fit 
 
       alone₁ : (i : ℕ) → (i ≡ a → ⊥) → y .system .stands (ledger₁ .jobs .mode i x) wants ≡ true
       alone₁ i d =
-          elim (cases-bool (hurt i))
-          [ inl e ↦
-              ap (λ (f : ℕ → ℕ). y .system .stands (f x) wants) (where-true hurt (λ _. 0) (l .jobs .mode) i e) ∙ law .stands-none wants
-          | inr e ↦
-              ap (λ (f : ℕ → ℕ). y .system .stands (f x) wants) (where-false hurt (λ _. 0) (l .jobs .mode) i e)
-              ∙ stands-or-yields (y .system) law (l .jobs) a x wants free i d e
+          elim (cases-bool (hurt i)) [
+            | inl e ↦
+                ap (λ (f : ℕ → ℕ). y .system .stands (f x) wants) (where-true hurt (λ _. 0) (l .jobs .mode) i e) ∙ law .stands-none wants
+            | inr e ↦
+                ap (λ (f : ℕ → ℕ). y .system .stands (f x) wants) (where-false hurt (λ _. 0) (l .jobs .mode) i e)
+                ∙ stands-or-yields (y .system) law (l .jobs) a x wants free i d e
           ]
 
       rises₁ : (part : ℕ) → has (y .system) (ledger₁ .jobs .mode a x) part ≡ true → has (y .system) wants part ≡ true
@@ -262,58 +262,58 @@ module _ (y : Layout) (law : Lawful (y .system)) (start : List ℕ) (fits : Fit 
           let m = l .jobs .mode a x in
           let m′ = wl .left .jobs .mode a in
           let rest-of = has s (m′ x) (s .intent k) && covered s m′ k xs in
-          record
-          { words = next .words
-          ; notes = next .notes
-          ; model = next .model
-          ; complete = next .complete
-          ; kept = next .kept
-          ; older = λ i h. next .older i h ∙ older₁ i h
-          ; stopped =
-              λ c.
-                  let b = next .stopped c in
-                  (b .0, b .1, ap is-ended (sym (older₁ (b .0) (omega (arith, b .1)))) ∙ b .2)
-          ; still =
-              λ z part h.
-                  next .still z part
-                  (has-still y law start fits ledger₁ words₁ notes₁ kept₁ a x wants open₁ alone₁ rises₁ z part (still₁ z part h))
-          ; covers =
-              λ c.
-                  elim (cases-eq x g)
-                  [ inl e ↦
+          record {
+            words = next .words;
+            notes = next .notes;
+            model = next .model;
+            complete = next .complete;
+            kept = next .kept;
+            older = λ i h. next .older i h ∙ older₁ i h;
+            stopped =
+                λ c.
+                let b = next .stopped c in
+                (b .0, b .1, ap is-ended (sym (older₁ (b .0) (omega (arith, b .1)))) ∙ b .2);
+            still =
+                λ z part h.
+                next .still z part
+                (has-still y law start fits ledger₁ words₁ notes₁ kept₁ a x wants open₁ alone₁ rises₁ z part (still₁ z part h));
+            covers =
+                λ c.
+                elim (cases-eq x g) [
+                  | inl e ↦
                       inl
                       (or-left (has s (m′ x) (s .full k)) rest-of
                       (next .still x (s .full k)
                       (ap (λ (t : ℕ). has s t (s .full k)) (mode₂ ∙ target-at s k g x m e) ∙ has-joined s law m (s .full k) (law .full-within k))))
                   | inr e ↦
-                      elim (next .covers c)
-                      [ inl rest ↦
-                          inl
-                          (or-right (has s (m′ x) (s .full k)) rest-of
-                          (and-from (has s (m′ x) (s .intent k)) (covered s m′ k xs)
-                          (next .still x (s .intent k)
-                          (ap (λ (t : ℕ). has s t (s .intent k)) (mode₂ ∙ target-above s k g x m e)
-                          ∙ has-joined s law m (s .intent k) (law .intent-within k)))
-                          rest))
-                      | inr nil ↦ absurd (e (ends-last g x xs ends nil))
+                      elim (next .covers c) [
+                        | inl rest ↦
+                            inl
+                            (or-right (has s (m′ x) (s .full k)) rest-of
+                            (and-from (has s (m′ x) (s .intent k)) (covered s m′ k xs)
+                            (next .still x (s .intent k)
+                            (ap (λ (t : ℕ). has s t (s .intent k)) (mode₂ ∙ target-above s k g x m e)
+                            ∙ has-joined s law m (s .intent k) (law .intent-within k)))
+                            rest))
+                        | inr nil ↦ absurd (e (ends-last g x xs ends nil))
                       ]
-                  ]
+                ];
           }
 
   pub walk-kept :
-    (xs : List ℕ) (l : Ledger) (ws : List ℕ) (notes : ℕ → ℕ → Note) → Kept y start l ws notes → is-open (l .jobs .status a) ≡ true → Ends g xs
-    → Stepped y start k a l xs (walk ledger-hands (y .system) k g a xs l) (walk model-hands (y .system) k g a xs (model-of l ws notes))
+      (xs : List ℕ) (l : Ledger) (ws : List ℕ) (notes : ℕ → ℕ → Note) → Kept y start l ws notes → is-open (l .jobs .status a) ≡ true → Ends g xs
+      → Stepped y start k a l xs (walk ledger-hands (y .system) k g a xs l) (walk model-hands (y .system) k g a xs (model-of l ws notes))
   walk-kept [] l ws notes kept open-a ends =
-      record
-      { words = ws
-      ; notes = notes
-      ; model = refl
-      ; complete = refl
-      ; kept = kept
-      ; older = λ i h. refl
-      ; stopped = λ c. absurd (both-ways true c refl)
-      ; still = λ z part h. h
-      ; covers = λ _. inr refl
+      record {
+        words = ws;
+        notes = notes;
+        model = refl;
+        complete = refl;
+        kept = kept;
+        older = λ i h. refl;
+        stopped = λ c. absurd (both-ways true c refl);
+        still = λ z part h. h;
+        covers = λ _. inr refl;
       }
   walk-kept (x ∷ xs) l ws notes kept open-a ends =
       let s = y .system in
@@ -322,50 +322,50 @@ module _ (y : Layout) (law : Lawful (y .system)) (start : List ℕ) (fits : Fit 
       let mo = model-of l ws notes in
       let whole-l = walk ledger-hands s k g a (x ∷ xs) l in
       let whole-m = walk model-hands s k g a (x ∷ xs) mo in
-      elim (cases-bool (has s m (s .full k)))
-      [ inl full ↦
-          stepped-as y start k a l (x ∷ xs) whole-l (record { left = l; complete = true }) whole-m (record { left = mo; complete = true })
-          (walk-covered ledger-hands s k g a x xs l full) (walk-covered model-hands s k g a x xs mo full)
-          (record
-          { words = ws
-          ; notes = notes
-          ; model = refl
-          ; complete = refl
-          ; kept = kept
-          ; older = λ i h. refl
-          ; stopped = λ c. absurd (both-ways true c refl)
-          ; still = λ z part h. h
-          ; covers = λ _. inl (or-left (has s m (s .full k)) (has s m (s .intent k) && covered s (l .jobs .mode a) k xs) full)
-          })
-      | inr full ↦
-          elim (cases-bool (eqb t m))
-          [ inl same ↦
-              stepped-as y start k a l (x ∷ xs) whole-l (walk ledger-hands s k g a xs l) whole-m (walk model-hands s k g a xs mo)
-              (walk-same ledger-hands s k g a x xs l full same) (walk-same model-hands s k g a x xs mo full same)
-              (on-same x xs l ws notes kept open-a ends full (walk ledger-hands s k g a xs l) (walk model-hands s k g a xs mo) same
-              (walk-kept xs l ws notes kept open-a (ends-tail g x xs ends)))
-          | inr differs ↦
-              elim (cases-bool (some-below a (blocks s (l .jobs) a x t)))
-              [ inl held ↦
-                  stepped-as y start k a l (x ∷ xs) whole-l
-                  (record { left = ledger₁ x xs l ws notes kept open-a ends full; complete = false }) whole-m
-                  (record
-                  { left =
-                      model-of (ledger₁ x xs l ws notes kept open-a ends full) (words₁ x xs l ws notes kept open-a ends full)
-                      (notes₁ x xs l ws notes kept open-a ends full)
-                  ; complete = false
-                  })
-                  (walk-stops ledger-hands s k g a x xs l full differs held) (walk-stops model-hands s k g a x xs mo full differs held)
-                  (on-stop x xs l ws notes kept open-a ends full held)
-              | inr free ↦
-                  let l₂ = ledger₂ x xs l ws notes kept open-a ends full free in
-                  let w₁ = words₁ x xs l ws notes kept open-a ends full in
-                  let n₁ = notes₁ x xs l ws notes kept open-a ends full in
-                  stepped-as y start k a l (x ∷ xs) whole-l (walk ledger-hands s k g a xs l₂) whole-m (walk model-hands s k g a xs (model-of l₂ w₁ n₁))
-                  (walk-goes ledger-hands s k g a x xs l full differs free) (walk-goes model-hands s k g a x xs mo full differs free)
-                  (on-go x xs l ws notes kept open-a ends full free (walk ledger-hands s k g a xs l₂) (walk model-hands s k g a xs (model-of l₂ w₁ n₁))
-                  (walk-kept xs l₂ w₁ n₁ (kept₂ x xs l ws notes kept open-a ends full free) (open₁ x xs l ws notes kept open-a ends full free)
-                  (ends-tail g x xs ends)))
-              ]
-          ]
+      elim (cases-bool (has s m (s .full k))) [
+        | inl full ↦
+            stepped-as y start k a l (x ∷ xs) whole-l (record { left = l; complete = true }) whole-m (record { left = mo; complete = true })
+            (walk-covered ledger-hands s k g a x xs l full) (walk-covered model-hands s k g a x xs mo full)
+            (record {
+              words = ws;
+              notes = notes;
+              model = refl;
+              complete = refl;
+              kept = kept;
+              older = λ i h. refl;
+              stopped = λ c. absurd (both-ways true c refl);
+              still = λ z part h. h;
+              covers = λ _. inl (or-left (has s m (s .full k)) (has s m (s .intent k) && covered s (l .jobs .mode a) k xs) full);
+            })
+        | inr full ↦
+            elim (cases-bool (eqb t m)) [
+              | inl same ↦
+                  stepped-as y start k a l (x ∷ xs) whole-l (walk ledger-hands s k g a xs l) whole-m (walk model-hands s k g a xs mo)
+                  (walk-same ledger-hands s k g a x xs l full same) (walk-same model-hands s k g a x xs mo full same)
+                  (on-same x xs l ws notes kept open-a ends full (walk ledger-hands s k g a xs l) (walk model-hands s k g a xs mo) same
+                  (walk-kept xs l ws notes kept open-a (ends-tail g x xs ends)))
+              | inr differs ↦
+                  elim (cases-bool (some-below a (blocks s (l .jobs) a x t))) [
+                    | inl held ↦
+                        stepped-as y start k a l (x ∷ xs) whole-l
+                        (record { left = ledger₁ x xs l ws notes kept open-a ends full; complete = false }) whole-m
+                        (record {
+                          left =
+                              model-of (ledger₁ x xs l ws notes kept open-a ends full) (words₁ x xs l ws notes kept open-a ends full)
+                              (notes₁ x xs l ws notes kept open-a ends full);
+                          complete = false;
+                        })
+                        (walk-stops ledger-hands s k g a x xs l full differs held) (walk-stops model-hands s k g a x xs mo full differs held)
+                        (on-stop x xs l ws notes kept open-a ends full held)
+                    | inr free ↦
+                        let l₂ = ledger₂ x xs l ws notes kept open-a ends full free in
+                        let w₁ = words₁ x xs l ws notes kept open-a ends full in
+                        let n₁ = notes₁ x xs l ws notes kept open-a ends full in
+                        stepped-as y start k a l (x ∷ xs) whole-l (walk ledger-hands s k g a xs l₂) whole-m (walk model-hands s k g a xs (model-of l₂ w₁ n₁))
+                        (walk-goes ledger-hands s k g a x xs l full differs free) (walk-goes model-hands s k g a x xs mo full differs free)
+                        (on-go x xs l ws notes kept open-a ends full free (walk ledger-hands s k g a xs l₂) (walk model-hands s k g a xs (model-of l₂ w₁ n₁))
+                        (walk-kept xs l₂ w₁ n₁ (kept₂ x xs l ws notes kept open-a ends full free) (open₁ x xs l ws notes kept open-a ends full free)
+                        (ends-tail g x xs ends)))
+                  ]
+            ]
       ]

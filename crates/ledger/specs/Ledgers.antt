@@ -37,13 +37,13 @@ unended js = count-below (suc (js .opened)) (λ k. not (is-ended (js .status k))
 -- What the table of refusals looks at, once an engine is laid out.
 abbrev pub facts : Layout → Jobs → Facts
 facts y js =
-    record
-    { laid = true
-    ; unended = unended js
-    ; opened = js .opened
-    ; status = js .status
-    ; granules = length (y .parents)
-    ; places = 0
+    record {
+      laid = true;
+      unended = unended js;
+      opened = js .opened;
+      status = js .status;
+      granules = length (y .parents);
+      places = 0;
     }
 
 -- The operation for which a job waits. One that does not wait has none; then any operation stands here.
@@ -58,9 +58,9 @@ abbrev pub attempt : {S : Type 0} → Hands S → Layout → ℕ → Operation �
 attempt h y j o st =
     let w = walk h (y .system) (kind (o .action)) (o .granule) j (path (y .parents) (o .granule)) st in
     let s = w .left in
-    record
-    { left = h .with-jobs (now-is j (elim (w .complete) [ true ↦ working | false ↦ waiting o ]) (h .jobs s)) s
-    ; complete = w .complete
+    record {
+      left = h .with-jobs (now-is j (elim (w .complete) [ true ↦ working | false ↦ waiting o ]) (h .jobs s)) s;
+      complete = w .complete;
     }
 
 -- The jobs; the operations that each has carried out since it was opened or reopened, with the answers noted; and
@@ -76,10 +76,10 @@ blank = record { jobs = none; steps = λ _. []; order = [] }
 -- The ledger in the hands of a walk: a wounded job's list is emptied.
 abbrev pub ledger-hands : Hands Ledger
 ledger-hands =
-    record
-    { jobs = λ l. l .jobs
-    ; with-jobs = λ js l. record { jobs = js; steps = l .steps; order = l .order }
-    ; wound = λ p l. record { jobs = wound-jobs p (l .jobs); steps = where-so p [] (l .steps); order = l .order }
+    record {
+      jobs = λ l. l .jobs;
+      with-jobs = λ js l. record { jobs = js; steps = l .steps; order = l .order };
+      wound = λ p l. record { jobs = wound-jobs p (l .jobs); steps = where-so p [] (l .steps); order = l .order };
     }
 
 -- What an answer notes beside an operation.

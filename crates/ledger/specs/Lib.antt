@@ -6,3 +6,4 @@ pub mod Promises
 pub mod Models
 pub mod Collisions
 pub mod Theorems
+pub mod Stories

@@ -71,16 +71,16 @@ fresh words = record { jobs = none; words = words; notes = λ _ _. nothing }
 -- The model in the hands of a walk: a wounded job's work is taken back.
 abbrev pub model-hands : Hands Model
 model-hands =
-    record
-    { jobs = λ m. m .jobs
-    ; with-jobs = λ js m. record { jobs = js; words = m .words; notes = m .notes }
-    ; wound =
-        λ p m.
-            record
-            { jobs = wound-jobs p (m .jobs)
-            ; words = all-taken-back p (m .notes) (suc (m .jobs .opened)) (m .words)
-            ; notes = where-so p (λ _. nothing) (m .notes)
-            }
+    record {
+      jobs = λ m. m .jobs;
+      with-jobs = λ js m. record { jobs = js; words = m .words; notes = m .notes };
+      wound =
+          λ p m.
+          record {
+            jobs = wound-jobs p (m .jobs);
+            words = all-taken-back p (m .notes) (suc (m .jobs .opened)) (m .words);
+            notes = where-so p (λ _. nothing) (m .notes);
+          };
     }
 
 -- The word at a place.
@@ -90,13 +90,13 @@ word-at words r = getD words r 0
 -- An operation of job j carried out.
 abbrev pub carried : Layout → ℕ → Operation → Model → Model
 carried y j o m =
-    record
-    { jobs = m .jobs
-    ; words = after (y .parents) o (m .words)
-    ; notes =
-        put j
-        (λ r. elim (record-beneath (y .parents) (o .granule) r) [ true ↦ noted (o .action) (word-at (m .words) r) (m .notes j r) | false ↦ m .notes j r ])
-        (m .notes)
+    record {
+      jobs = m .jobs;
+      words = after (y .parents) o (m .words);
+      notes =
+          put j
+          (λ r. elim (record-beneath (y .parents) (o .granule) r) [ true ↦ noted (o .action) (word-at (m .words) r) (m .notes j r) | false ↦ m .notes j r ])
+          (m .notes);
     }
 
 -- What a call leaves and answers.
@@ -107,35 +107,35 @@ pub record Served : Type 0 where
 abbrev pub try : Layout → ℕ → Operation → Model → Served
 try y j o m =
     let w = attempt model-hands y j o m in
-    elim (w .complete)
-    [ true ↦ record { left = carried y j o (w .left); said = Told (answer (y .parents) o (w .left .words)) }
-    | false ↦ record { left = w .left; said = Waits }
+    elim (w .complete) [
+      | true ↦ record { left = carried y j o (w .left); said = Told (answer (y .parents) o (w .left .words)) }
+      | false ↦ record { left = w .left; said = Waits }
     ]
 
 abbrev pub grant : Layout → Call → Model → Served
 grant y (Lay parents words) m = record { left = m; said = Told Done }
 grant y Open m =
-    record
-    { left = record { jobs = open-one (m .jobs); words = m .words; notes = m .notes }
-    ; said = Job (suc (m .jobs .opened))
+    record {
+      left = record { jobs = open-one (m .jobs); words = m .words; notes = m .notes };
+      said = Job (suc (m .jobs .opened));
     }
 grant y (Carry j o) m = try y j o m
 grant y (Go j) m = try y j (wanted (m .jobs .status j)) m
 grant y (Again j) m = record { left = record { jobs = now-is j working (m .jobs); words = m .words; notes = m .notes }; said = Told Done }
 grant y (Commit j) m =
-    record
-    { left = record { jobs = end-one j (m .jobs); words = m .words; notes = put j (λ _. nothing) (m .notes) }
-    ; said = Told Done
+    record {
+      left = record { jobs = end-one j (m .jobs); words = m .words; notes = put j (λ _. nothing) (m .notes) };
+      said = Told Done;
     }
 grant y (GiveUp j) m =
-    record
-    { left =
-        record
-        { jobs = end-one j (m .jobs)
-        ; words = taken-back (m .notes j) (m .words)
-        ; notes = put j (λ _. nothing) (m .notes)
-        }
-    ; said = Told Done
+    record {
+      left =
+          record {
+            jobs = end-one j (m .jobs);
+            words = taken-back (m .notes j) (m .words);
+            notes = put j (λ _. nothing) (m .notes);
+          };
+      said = Told Done;
     }
 grant y (Look g) m = record { left = m; said = Head (group (y .system) (m .jobs) g (suc (m .jobs .opened))) (holders (m .jobs) g) }
 

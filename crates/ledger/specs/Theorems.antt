@@ -69,12 +69,12 @@ abbrev pub Take-back-exact : Type 0
 Take-back-exact =
     Of-every-run
     (λ y start calls.
-        let l = written y blank (history y calls (fresh start)) in
-        let m = served y calls (fresh start) in
-        (j : ℕ) (ks : List ℕ)
-        → Arranges-without (l .jobs) j ks
-        → is-open (l .jobs .status j) ≡ true
-        → Alone (y .parents) start (in-turn (l .steps) (l .order) ++ in-turn (l .steps) ks) (taken-back (m .notes j) (m .words)))
+    let l = written y blank (history y calls (fresh start)) in
+    let m = served y calls (fresh start) in
+    (j : ℕ) (ks : List ℕ)
+    → Arranges-without (l .jobs) j ks
+    → is-open (l .jobs .status j) ≡ true
+    → Alone (y .parents) start (in-turn (l .steps) (l .order) ++ in-turn (l .steps) ks) (taken-back (m .notes j) (m .words)))
 
 -- A call that the table refuses leaves the model equal to what it was, and is answered so.
 abbrev pub Refused-leaves-equal : Type 0

@@ -16,9 +16,9 @@ pub data Judgement : Type 0 where
 -- The judgement of one holder: first whether there is a conflict, then which of the two is older.
 abbrev pub judge : System → ℕ → ℕ → ℕ → ℕ → Judgement
 judge s asker target holder held =
-    elim (eqb holder asker)
-    [ true ↦ passes
-    | false ↦ elim (s .stands held target) [ true ↦ passes | false ↦ elim (ltb asker holder) [ true ↦ gives-way | false ↦ holds-up ] ]
+    elim (eqb holder asker) [
+      | true ↦ passes
+      | false ↦ elim (s .stands held target) [ true ↦ passes | false ↦ elim (ltb asker holder) [ true ↦ gives-way | false ↦ holds-up ] ]
     ]
 
 abbrev pub must-give-way : Judgement → Bool
@@ -69,16 +69,16 @@ walk h s k g asker (x ∷ xs) st =
     let js = h .jobs st in
     let m = js .mode asker x in
     let t = target s k g x m in
-    elim (has s m (s .full k))
-    [ true ↦ record { left = st; complete = true }
-    | false ↦
-        elim (eqb t m)
-        [ true ↦ walk h s k g asker xs st
-        | false ↦
-            let hurt = h .wound (yields s js asker x t) st in
-            elim (some-below asker (blocks s js asker x t))
-            [ true ↦ record { left = hurt; complete = false }
-            | false ↦ walk h s k g asker xs (h .with-jobs (raise asker x t (h .jobs hurt)) hurt)
-            ]
-        ]
+    elim (has s m (s .full k)) [
+      | true ↦ record { left = st; complete = true }
+      | false ↦
+          elim (eqb t m) [
+            | true ↦ walk h s k g asker xs st
+            | false ↦
+                let hurt = h .wound (yields s js asker x t) st in
+                elim (some-below asker (blocks s js asker x t)) [
+                  | true ↦ record { left = hurt; complete = false }
+                  | false ↦ walk h s k g asker xs (h .with-jobs (raise asker x t (h .jobs hurt)) hurt)
+                ]
+          ]
     ]

@@ -1,9 +1,9 @@
 // The calls of the engine and what they answer.
 use crate::refusal::Refusal;
-use operations::Operation;
-use operations::Outcome;
 use crate::refusal::RefusalDebug;
 use crate::refusal::RefusalPartialEq;
+use operations::Operation;
+use operations::Outcome;
 use operations::operation::OutcomeDebug;
 use operations::operation::OutcomePartialEq;
 

@@ -1,4 +1,5 @@
 // The theorems about the definitions. Each function is always true: what it promises is in its clause.
+ghost use Rattle.ledger.specs.Stories.{Edge-cases};
 ghost use Rattle.ledger.specs.Theorems.{Promise-kept, Oldest-never-waits, Covered-do-not-collide, Take-back-exact, Refused-leaves-equal};
 
 // After any list of calls the promise holds of the calls with the answers that the model gave, and of its words.
@@ -32,6 +33,13 @@ pub fn take_back_is_exact() -> bool
 // A refused call leaves the model equal.
 pub fn refusals_change_nothing() -> bool
     ensures same { λ _. ⌜ Refused-leaves-equal ⌝ }
+{
+    true
+}
+
+// Cases at the edges and a story of fifteen calls, worked out by hand.
+pub fn edge_cases() -> bool
+    ensures cases { λ _. ⌜ Edge-cases ⌝ }
 {
     true
 }
