@@ -1,16 +1,9 @@
--- What is held of a job.
+-- What is held of a job: its state (see src/job.rt) and its modes.
 use mathlib.Core.Bool.{Bool, true, false, not}
 use Prim.Native.Nat.{ℕ, suc}
 use lib.Dec.{eqb}
-use Rattle.operations.specs.declared.operation.Operation.{Operation}
-
--- A job is working, waiting for an older one to get out of the way of an operation, wounded by an older one, which
--- has had its work taken back, or ended. A number that was never given counts as ended.
-pub data Status : Type 0 where
-  working : Status
-  waiting : Operation → Status
-  wounded : Status
-  ended : Status
+pub use Rattle.ledger.specs.declared.job.Status.{Status}
+pub use Rattle.ledger.specs.declared.job.Status.the-variants.{Working as working, Waiting as waiting, Wounded as wounded, Ended as ended}
 
 abbrev pub is-working : Status → Bool
 is-working working = true

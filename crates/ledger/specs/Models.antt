@@ -22,15 +22,13 @@ use Rattle.ledger.specs.Jobs.{Jobs, working, put, where-so, none, now-is, open
 use Rattle.ledger.specs.Walks.{Hands, Walked}
 use Rattle.ledger.specs.Ledgers.{Layout, Event, facts, wanted, attempt}
 use Rattle.ledger.specs.Promises.{group, holders}
+pub use Rattle.ledger.specs.declared.job.Note.{Note}
+pub use Rattle.ledger.specs.declared.job.Note.the-variants.{Nothing as nothing, Added as added, PutBack as put-back}
 
--- What a job notes on a record so that its work there can be taken back: nothing if it has only read; the sum of what
--- it added if it only added; once it has set the record, the word to put back.
-pub data Note : Type 0 where
-  nothing : Note
-  added : ℕ → Note
-  put-back : ℕ → Note
+-- A job's note on a record is nothing if it has only read there; the sum of what it added if it only added; once it has
+-- set the record, the word to put back.
 
--- The word of a record taken back. Sums wrap, so what was added is subtracted, wrapping.
+-- The word of a record taken back by a note. Sums wrap, so what was added is subtracted, wrapping.
 abbrev pub back : Note → ℕ → ℕ
 back nothing word = word
 back (added n) word = (word + 4294967296 - n) % 4294967296

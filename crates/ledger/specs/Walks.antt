@@ -7,13 +7,11 @@ use Rattle.modes.specs.declared.kind.Kind.{Kind}
 use Rattle.modes.specs.Systems.{System}
 use Rattle.granules.specs.Below.{some-below}
 use Rattle.ledger.specs.Jobs.{Jobs, raise}
+pub use Rattle.ledger.specs.declared.job.Judgement.{Judgement}
+pub use Rattle.ledger.specs.declared.job.Judgement.the-variants.{Passes as passes, GivesWay as gives-way, HoldsUp as holds-up}
 
--- What follows from one holder, for a job that asks for a mode on the granule that the other holds: the holder is not in
--- its way, or is younger and gives way, or is older and holds it up.
-pub data Judgement : Type 0 where
-  passes gives-way holds-up : Judgement
-
--- The judgement of one holder: first whether there is a conflict, then which of the two is older.
+-- The judgement of one holder, for a job that asks for a mode on the granule that the other holds: first whether there is a
+-- conflict, then which of the two is older. A younger holder gives way, an older one holds the asker up.
 abbrev pub judge : System → ℕ → ℕ → ℕ → ℕ → Judgement
 judge s asker target holder held =
     elim (eqb holder asker) [

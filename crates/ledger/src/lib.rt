@@ -8,9 +8,13 @@
 // locks are taken), `Ledgers` (what calls do to jobs), `Promises` (what is promised), `Models` (what an engine has to
 // keep in order to promise it), `Theorems`, `Stories`.
 pub mod call;
+pub mod job;
 pub mod promises;
 pub mod refusal;
 
 pub use call::Answer;
 pub use call::Call;
+pub use job::Judgement;
+pub use job::Note;
+pub use job::Status;
 pub use refusal::Refusal;
