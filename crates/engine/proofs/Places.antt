@@ -1,0 +1,150 @@
+-- The first place of a number in a list, and lists whose numbers are apart and given.
+use mathlib.Core.Path.{_≡_, refl, sym, _∙_, ap, subst}
+use mathlib.Core.Logic.{inl, inr}
+use mathlib.Core.Bool.{Bool, true, false, not, _&&_, _||_}
+use mathlib.Core.List.{List, [], _∷_}
+use Prim.Native.Nat.{ℕ, zero, suc, _+_, _<_, _≤_}
+use native.Mathlib.Omega.{arith}
+use lib.Dec.{eqb, leb}
+use lib.ListN.{length, getD, set}
+use Rattle.std.proofs.shelf.Tests.{cases-eq, cases-bool, and-parts, and-from, or-cases, or-left, or-right, or-parts, or-from, both-ways, not-true, not-from-false, eq-eqb, ne-eqb, eqb-true, le-leb, leb-true}
+use Rattle.granules.specs.Paths.{among}
+use Rattle.ledger.specs.declared.job.Status.{Status}
+use Rattle.ledger.specs.Jobs.{is-ended}
+use Rattle.engine.specs.Seats.{place, slot, distinct, all-given, busy}
+
+place-here : (x : ℕ) (xs : List ℕ) (k : ℕ) → x ≡ k → place (x ∷ xs) k ≡ 0
+place-here x xs k e = let t = eq-eqb x k e in rw (t, place)
+
+place-later : (x : ℕ) (xs : List ℕ) (k : ℕ) → (x ≡ k → ⊥) → place (x ∷ xs) k ≡ suc (place xs k)
+place-later x xs k e = let t = ne-eqb x k e in rw (t, place)
+
+-- a number that stands at i, and at no place before, has its first place there
+pub place-found :
+  (xs : List ℕ) (k i : ℕ) → i < length xs → getD xs i 0 ≡ k → ((j : ℕ) → j < i → getD xs j 0 ≡ k → ⊥) → place xs k ≡ i
+place-found [] k i l e n = absurd (omega arith)
+place-found (x ∷ xs) k zero l e n = place-here x xs k e
+place-found (x ∷ xs) k (suc i) l e n =
+    place-later x xs k (n 0 (omega arith)) ∙ ap suc (place-found xs k i (omega arith) e (λ j h. n (suc j) (omega arith)))
+
+-- one that stands nowhere has none
+pub place-none : (xs : List ℕ) (k : ℕ) → ((j : ℕ) → j < length xs → getD xs j 0 ≡ k → ⊥) → place xs k ≡ length xs
+place-none [] k n = refl
+place-none (x ∷ xs) k n = place-later x xs k (n 0 (omega arith)) ∙ ap suc (place-none xs k (λ j h. n (suc j) (omega arith)))
+
+-- what stands at the first place
+pub place-at : (xs : List ℕ) (k : ℕ) → place xs k < length xs → getD xs (place xs k) 0 ≡ k
+place-at [] k l = absurd (omega arith)
+place-at (x ∷ xs) k l =
+    elim (cases-eq x k)
+    [ inl e ↦ ap (λ (i : ℕ). getD (x ∷ xs) i 0) (place-here x xs k e) ∙ e
+    | inr e ↦
+        ap (λ (i : ℕ). getD (x ∷ xs) i 0) (place-later x xs k e)
+        ∙ place-at xs k (omega (arith, place-later x xs k e))
+    ]
+
+-- numbers that were given stay so when more are
+pub given-more : (n m : ℕ) (xs : List ℕ) → n ≤ m → all-given n xs ≡ true → all-given m xs ≡ true
+given-more n m [] h e = refl
+given-more n m (x ∷ xs) h e =
+    let p = and-parts (leb x n) (all-given n xs) e in
+    let le = leb-true x n (p .0) in
+    and-from (leb x m) (all-given m xs) (le-leb x m (omega arith)) (given-more n m xs h (p .1))
+
+-- a number that was given may be put anywhere
+pub given-set : (n : ℕ) (xs : List ℕ) (i v : ℕ) → v ≤ n → all-given n xs ≡ true → all-given n (set xs i v) ≡ true
+given-set n [] i v h e = refl
+given-set n (x ∷ xs) zero v h e = and-from (leb v n) (all-given n xs) (le-leb v n h) (and-parts (leb x n) (all-given n xs) e .1)
+given-set n (x ∷ xs) (suc i) v h e =
+    let p = and-parts (leb x n) (all-given n xs) e in
+    and-from (leb x n) (all-given n (set xs i v)) (p .0) (given-set n xs i v h (p .1))
+
+-- a number that was not given is not among those that were
+new-among : (n : ℕ) (xs : List ℕ) (v : ℕ) → n < v → all-given n xs ≡ true → among v xs ≡ false
+new-among n [] v h e = refl
+new-among n (x ∷ xs) v h e =
+    let p = and-parts (leb x n) (all-given n xs) e in
+    let le = leb-true x n (p .0) in
+    or-from (eqb v x) (among v xs) (ne-eqb v x (λ (z : v ≡ x). omega arith)) (new-among n xs v h (p .1))
+
+-- nor does a number come among others by being put for one of them, unless it is that number
+among-set : (xs : List ℕ) (i v x : ℕ) → (x ≡ v → ⊥) → among x xs ≡ false → among x (set xs i v) ≡ false
+among-set [] i v x d e = refl
+among-set (y ∷ ys) zero v x d e = or-from (eqb x v) (among x ys) (ne-eqb x v d) (or-parts (eqb x y) (among x ys) e .1)
+among-set (y ∷ ys) (suc i) v x d e =
+    let p = or-parts (eqb x y) (among x ys) e in
+    or-from (eqb x y) (among x (set ys i v)) (p .0) (among-set ys i v x d (p .1))
+
+-- Numbers stay apart when a new one is put for one of them.
+pub distinct-new : (n : ℕ) (xs : List ℕ) (i v : ℕ) → n < v → all-given n xs ≡ true → distinct xs ≡ true → distinct (set xs i v) ≡ true
+distinct-new n [] i v h g e = refl
+distinct-new n (x ∷ xs) zero v h g e =
+    and-from (eqb v 0 || not (among v xs)) (distinct xs)
+    (or-right (eqb v 0) (not (among v xs)) (not-from-false (among v xs) (new-among n xs v h (and-parts (leb x n) (all-given n xs) g .1))))
+    (and-parts (eqb x 0 || not (among x xs)) (distinct xs) e .1)
+distinct-new n (x ∷ xs) (suc i) v h g e =
+    let p = and-parts (eqb x 0 || not (among x xs)) (distinct xs) e in
+    let q = and-parts (leb x n) (all-given n xs) g in
+    let le = leb-true x n (q .0) in
+    and-from (eqb x 0 || not (among x (set xs i v))) (distinct (set xs i v))
+    (elim (or-cases (eqb x 0) (not (among x xs)) (p .0))
+    [ inl z ↦ or-left (eqb x 0) (not (among x (set xs i v))) z
+    | inr a ↦
+        or-right (eqb x 0) (not (among x (set xs i v)))
+        (not-from-false (among x (set xs i v)) (among-set xs i v x (λ (z : x ≡ v). omega arith) (not-true (among x xs) a)))
+    ])
+    (distinct-new n xs i v h (q .1) (p .1))
+
+-- And when a slot is freed.
+pub distinct-free : (xs : List ℕ) (i : ℕ) → distinct xs ≡ true → distinct (set xs i 0) ≡ true
+distinct-free [] i e = refl
+distinct-free (x ∷ xs) zero e =
+    and-from (eqb 0 0 || not (among 0 xs)) (distinct xs) (or-left (eqb 0 0) (not (among 0 xs)) refl)
+    (and-parts (eqb x 0 || not (among x xs)) (distinct xs) e .1)
+distinct-free (x ∷ xs) (suc i) e =
+    let p = and-parts (eqb x 0 || not (among x xs)) (distinct xs) e in
+    and-from (eqb x 0 || not (among x (set xs i 0))) (distinct (set xs i 0))
+    (elim (cases-eq x 0)
+    [ inl z ↦ or-left (eqb x 0) (not (among x (set xs i 0))) (eq-eqb x 0 z)
+    | inr z ↦
+        elim (or-cases (eqb x 0) (not (among x xs)) (p .0))
+        [ inl y ↦ absurd (z (eqb-true x 0 y))
+        | inr a ↦
+            or-right (eqb x 0) (not (among x (set xs i 0)))
+            (not-from-false (among x (set xs i 0)) (among-set xs i 0 x z (not-true (among x xs) a)))
+        ]
+    ])
+    (distinct-free xs i (p .1))
+
+-- Whoever sits down has not ended, and whoever leaves need not care.
+pub busy-sit : (xs : List ℕ) (ss : List Status) (i v : ℕ) (st : Status) → is-ended st ≡ false → busy xs ss ≡ true → busy (set xs i v) (set ss i st) ≡ true
+busy-sit [] ss i v st h e = refl
+busy-sit (x ∷ xs) [] zero v st h e = refl
+busy-sit (x ∷ xs) [] (suc i) v st h e = refl
+busy-sit (x ∷ xs) (s ∷ ss) zero v st h e =
+    and-from (eqb v 0 || not (is-ended st)) (busy xs ss) (or-right (eqb v 0) (not (is-ended st)) (not-from-false (is-ended st) h))
+    (and-parts (eqb x 0 || not (is-ended s)) (busy xs ss) e .1)
+busy-sit (x ∷ xs) (s ∷ ss) (suc i) v st h e =
+    let p = and-parts (eqb x 0 || not (is-ended s)) (busy xs ss) e in
+    and-from (eqb x 0 || not (is-ended s)) (busy (set xs i v) (set ss i st)) (p .0) (busy-sit xs ss i v st h (p .1))
+
+pub busy-turn : (xs : List ℕ) (ss : List Status) (i : ℕ) (st : Status) → is-ended st ≡ false → busy xs ss ≡ true → busy xs (set ss i st) ≡ true
+busy-turn [] ss i st h e = refl
+busy-turn (x ∷ xs) [] i st h e = refl
+busy-turn (x ∷ xs) (s ∷ ss) zero st h e =
+    and-from (eqb x 0 || not (is-ended st)) (busy xs ss) (or-right (eqb x 0) (not (is-ended st)) (not-from-false (is-ended st) h))
+    (and-parts (eqb x 0 || not (is-ended s)) (busy xs ss) e .1)
+busy-turn (x ∷ xs) (s ∷ ss) (suc i) st h e =
+    let p = and-parts (eqb x 0 || not (is-ended s)) (busy xs ss) e in
+    and-from (eqb x 0 || not (is-ended s)) (busy xs (set ss i st)) (p .0) (busy-turn xs ss i st h (p .1))
+
+pub busy-leave : (xs : List ℕ) (ss : List Status) (i : ℕ) → busy xs ss ≡ true → busy (set xs i 0) ss ≡ true
+busy-leave [] ss i e = refl
+busy-leave (x ∷ xs) [] zero e = refl
+busy-leave (x ∷ xs) [] (suc i) e = refl
+busy-leave (x ∷ xs) (s ∷ ss) zero e =
+    and-from (eqb 0 0 || not (is-ended s)) (busy xs ss) (or-left (eqb 0 0) (not (is-ended s)) refl)
+    (and-parts (eqb x 0 || not (is-ended s)) (busy xs ss) e .1)
+busy-leave (x ∷ xs) (s ∷ ss) (suc i) e =
+    let p = and-parts (eqb x 0 || not (is-ended s)) (busy xs ss) e in
+    and-from (eqb x 0 || not (is-ended s)) (busy (set xs i 0) ss) (p .0) (busy-leave xs ss i (p .1))

@@ -1,0 +1,21 @@
+// Which job sits in which slot, and in what state.
+ghost use mathlib.Core.Bool.{true};
+ghost use mathlib.Core.Path.{_≡_};
+ghost use lib.ListN.{length};
+ghost use Rattle.engine.specs.Seats.{distinct, all-given, busy};
+use ledger::Status;
+
+pub mod asks;
+pub mod moves;
+
+// The numbers of the jobs in the 16 slots, 0 where a slot is free; their states; and the last number that was given.
+#[derive(Clone, Copy)]
+pub struct Seats {
+    numbers: [u32; 16],
+    states: [Status; 16],
+    opened: u32,
+    ghost full: { (length numbers ≡ 16) × (length states ≡ 16) },
+    ghost apart: { distinct numbers ≡ true },
+    ghost known: { all-given opened numbers ≡ true },
+    ghost seated: { busy numbers states ≡ true },
+}
