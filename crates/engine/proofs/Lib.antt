@@ -1,2 +1,4 @@
 pub mod Places
 pub mod Grids
+pub mod Sweeps
+pub mod Views

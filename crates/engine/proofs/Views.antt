@@ -1,0 +1,54 @@
+-- What a change in one slot is to the job that sits there.
+use mathlib.Core.Path.{_≡_, refl, sym, _∙_, ap, subst}
+use mathlib.Core.Logic.{inl, inr}
+use mathlib.Core.Bool.{true, false}
+use mathlib.Core.List.{List, [], _∷_}
+use Prim.Native.Nat.{ℕ, zero, suc, _<_, _≤_}
+use native.Mathlib.Omega.{arith}
+use lib.Dec.{eqb}
+use lib.ListN.{length, getD, set}
+use Rattle.std.proofs.shelf.Lists.{getD-set-same, getD-set-other, length-set}
+use Rattle.std.proofs.shelf.Tests.{cases-eq, eq-eqb, ne-eqb}
+use Rattle.ledger.specs.Jobs.{put}
+use Rattle.ledger.proofs.Piles.{put-at, put-other}
+use Rattle.engine.specs.Seats.{place, slot}
+use Rattle.engine.proofs.Places.{place-at}
+
+slot-none : (numbers : List ℕ) (k : ℕ) → k ≡ 0 → slot numbers k ≡ length numbers
+slot-none numbers k e = let t = eq-eqb k 0 e in rw (t, slot)
+
+slot-some : (numbers : List ℕ) (k : ℕ) → (k ≡ 0 → ⊥) → slot numbers k ≡ place numbers k
+slot-some numbers k e = let t = ne-eqb k 0 e in rw (t, slot)
+
+-- a slot of the table has its job's number, which is not 0
+pub slot-number : (numbers : List ℕ) (k : ℕ) → slot numbers k < length numbers → (getD numbers (slot numbers k) 0 ≡ k) × (k ≡ 0 → ⊥)
+slot-number numbers k l =
+    elim (cases-eq k 0)
+    [ inl e ↦ absurd (omega (arith, slot-none numbers k e))
+    | inr e ↦
+        ( ap (λ (i : ℕ). getD numbers i 0) (slot-some numbers k e) ∙ place-at numbers k (omega (arith, slot-some numbers k e))
+        , e
+        )
+    ]
+
+-- two jobs do not share a slot
+pub slot-own : (numbers : List ℕ) (j k : ℕ) → slot numbers j ≡ slot numbers k → slot numbers k < length numbers → j ≡ k
+slot-own numbers j k e l =
+    let a = slot-number numbers j (omega arith) .0 in
+    let b = slot-number numbers k l .0 in
+    sym a ∙ ap (λ (i : ℕ). getD numbers i 0) e ∙ b
+
+-- A row written at the slot of job k is what job k has, and nobody else.
+pub view-set :
+  {A : Type 0} (rows : List A) (d : A) (numbers : List ℕ) (k : ℕ) (v : A) → length rows ≡ length numbers → slot numbers k < length numbers
+  → (j : ℕ) → getD (set rows (slot numbers k) v) (slot numbers j) d ≡ put k v (λ i. getD rows (slot numbers i) d) j
+view-set rows d numbers k v e l j =
+    elim (cases-eq j k)
+    [ inl s ↦
+        ap (λ (i : ℕ). getD (set rows (slot numbers k) v) (slot numbers i) d) s
+        ∙ getD-set-same rows (slot numbers k) v d (omega arith)
+        ∙ sym (put-at k v (λ i. getD rows (slot numbers i) d) j s)
+    | inr s ↦
+        getD-set-other rows (slot numbers k) (slot numbers j) v d (λ (z : slot numbers j ≡ slot numbers k). s (slot-own numbers j k z l))
+        ∙ sym (put-other k v (λ i. getD rows (slot numbers i) d) j s)
+    ]

@@ -1,0 +1,28 @@
+-- What the engine's tables mean: the model of `ledger`, in which jobs are known by their numbers.
+use mathlib.Core.List.{List}
+use Prim.Native.Nat.{ℕ}
+use Rattle.ledger.specs.declared.job.Note.{Note}
+use Rattle.ledger.specs.declared.job.Note.the-variants.{Nothing}
+use Rattle.ledger.specs.Jobs.{Jobs}
+use Rattle.ledger.specs.Models.{Model}
+use Rattle.engine.specs.declared.core.Core.{Core}
+use Rattle.engine.specs.declared.held.Held.{Held}
+use Rattle.engine.specs.declared.noted.Noted.{Noted}
+use Rattle.engine.specs.declared.seats.Seats.{Seats}
+use Rattle.engine.specs.Grids.{cell}
+use Rattle.engine.specs.Seats.{slot, status-of}
+
+-- A job holds and notes what stands in the row of its slot; one that sits nowhere holds and notes nothing.
+abbrev pub jobs-of : Seats → Held → Jobs
+jobs-of seats held =
+    record
+    { opened = seats .opened
+    ; status = status-of (seats .numbers) (seats .states)
+    ; mode = λ k x. cell 0 (held .rows) (slot (seats .numbers) k) x
+    }
+
+abbrev pub notes-of : Seats → Noted → ℕ → ℕ → Note
+notes-of seats noted k r = cell Nothing (noted .rows) (slot (seats .numbers) k) r
+
+abbrev pub model : {S : Type 0} → (S → List ℕ) → Core S → Model
+model words c = record { jobs = jobs-of (c .seats) (c .held); words = words (c .shelf); notes = notes-of (c .seats) (c .noted) }
