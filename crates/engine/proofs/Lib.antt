@@ -1,4 +1,4 @@
 pub mod Places
 pub mod Grids
-pub mod Sweeps
+pub mod Words
 pub mod Views

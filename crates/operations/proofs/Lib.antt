@@ -1,3 +1,4 @@
 pub mod Places
+pub mod Sweeps
 pub mod Steps
 pub mod Edges

@@ -1,4 +1,4 @@
--- Words place by place: sums of them, and a change that a loop carries from place to place.
+-- Words place by place: sums of them, and a change of each.
 use mathlib.Core.Path.{_≡_, refl, sym, _∙_, ap, ap₂, subst}
 use mathlib.Core.Logic.{inl, inr}
 use mathlib.Core.Bool.{Bool, true, false, _&&_, cond}
@@ -61,110 +61,12 @@ pub each-still : (i : ℕ) (f : ℕ → ℕ → ℕ) (ws : List ℕ) → ((k w :
 each-still i f [] e = refl
 each-still i f (w ∷ ws) e = ap₂ (λ (x : ℕ) (xs : List ℕ). x ∷ xs) (e i w) (each-still (suc i) f ws e)
 
--- What an operation has left at place k when it has been carried as far as place r.
-abbrev pub upto : ℕ → List ℕ → Operation → ℕ → ℕ → ℕ
-upto r ps o k w = cond (ltb k r) (left-at ps o k w) w
-
-left-still : (ps : List ℕ) (o : Operation) (k w : ℕ) → record-beneath ps (o .granule) k ≡ false → left-at ps o k w ≡ w
+-- what an operation leaves at a place that it does not reach, and at one that it does
+pub left-still : (ps : List ℕ) (o : Operation) (k w : ℕ) → record-beneath ps (o .granule) k ≡ false → left-at ps o k w ≡ w
 left-still ps o k w e = cond-false (record-beneath ps (o .granule) k) (changed (o .action) w) w e
 
-left-new : (ps : List ℕ) (o : Operation) (k w : ℕ) → record-beneath ps (o .granule) k ≡ true → left-at ps o k w ≡ changed (o .action) w
+pub left-new : (ps : List ℕ) (o : Operation) (k w : ℕ) → record-beneath ps (o .granule) k ≡ true → left-at ps o k w ≡ changed (o .action) w
 left-new ps o k w e = cond-true (record-beneath ps (o .granule) k) (changed (o .action) w) w e
-
-upto-past : (r : ℕ) (ps : List ℕ) (o : Operation) (k w : ℕ) → r ≤ k → upto r ps o k w ≡ w
-upto-past r ps o k w h = cond-false (ltb k r) (left-at ps o k w) w (le-ltb k r h)
-
-upto-done : (r : ℕ) (ps : List ℕ) (o : Operation) (k w : ℕ) → k < r → upto r ps o k w ≡ left-at ps o k w
-upto-done r ps o k w h = cond-true (ltb k r) (left-at ps o k w) w (lt-ltb k r h)
-
--- before the first record nothing has changed
-pub upto-start :
-    (r : ℕ) (ps : List ℕ) (o : Operation) (ws : List ℕ) → ((k : ℕ) → record-beneath ps (o .granule) k ≡ true → r ≤ k)
-    → ws ≡ each-from 0 (upto r ps o) ws
-upto-start r ps o ws h =
-    sym
-    (each-still 0 (upto r ps o) ws
-    (λ k w.
-    elim (cases-lt k r) [
-      | inl l ↦
-          upto-done r ps o k w l
-          ∙ left-still ps o k w
-          (elim (cases-bool (record-beneath ps (o .granule) k)) [ inl t ↦ absurd (omega (arith, h k t)) | inr t ↦ t ])
-      | inr l ↦ upto-past r ps o k w l
-    ]))
-
--- past the last record all has
-pub upto-end :
-    (r : ℕ) (ps : List ℕ) (o : Operation) (ws : List ℕ) → ((k : ℕ) → record-beneath ps (o .granule) k ≡ true → k < r)
-    → each-from 0 (upto r ps o) ws ≡ after ps o ws
-unfolding after
-upto-end r ps o ws h =
-    each-same 0 (upto r ps o) (left-at ps o) ws
-    (λ k w.
-    elim (cases-lt k r) [
-      | inl l ↦ upto-done r ps o k w l
-      | inr l ↦
-          upto-past r ps o k w l
-          ∙ sym
-          (left-still ps o k w
-          (elim (cases-bool (record-beneath ps (o .granule) k)) [ inl t ↦ absurd (omega (arith, h k t)) | inr t ↦ t ]))
-    ])
-
--- one place more makes no difference at the others
-upto-else : (r : ℕ) (ps : List ℕ) (o : Operation) (k w : ℕ) → (k ≡ r → ⊥) → upto r ps o k w ≡ upto (r + 1) ps o k w
-upto-else r ps o k w s =
-    elim (cases-lt k r) [
-      | inl l ↦ upto-done r ps o k w l ∙ sym (upto-done (r + 1) ps o k w (omega arith))
-      | inr l ↦ upto-past r ps o k w l ∙ sym (upto-past (r + 1) ps o k w (omega arith))
-    ]
-
--- at a place that is no record beneath the granule nothing is to be done
-pub upto-skip :
-    (r : ℕ) (ps : List ℕ) (o : Operation) (ws : List ℕ) → record-beneath ps (o .granule) r ≡ false
-    → each-from 0 (upto r ps o) ws ≡ each-from 0 (upto (r + 1) ps o) ws
-upto-skip r ps o ws e =
-    each-same 0 (upto r ps o) (upto (r + 1) ps o) ws
-    (λ k w.
-    elim (cases-eq k r) [
-      | inl s ↦
-          upto-past r ps o k w (omega arith)
-          ∙ sym (left-still ps o k w (subst (λ (x : ℕ). record-beneath ps (o .granule) x ≡ false) (sym s) e))
-          ∙ sym (upto-done (r + 1) ps o k w (omega arith))
-      | inr s ↦ upto-else r ps o k w s
-    ])
-
--- a put of the changed word is one place more
-pub upto-put :
-    (r : ℕ) (ps : List ℕ) (o : Operation) (ws : List ℕ) → record-beneath ps (o .granule) r ≡ true
-    → set (each-from 0 (upto r ps o) ws) r (changed (o .action) (getD (each-from 0 (upto r ps o) ws) r 0))
-    ≡ each-from 0 (upto (r + 1) ps o) ws
-upto-put r ps o ws e =
-    let now = each-from 0 (upto r ps o) ws in
-    let next = each-from 0 (upto (r + 1) ps o) ws in
-    let new = changed (o .action) (getD now r 0) in
-    let len : length now ≡ length ws = length-each 0 (upto r ps o) ws in
-    let len-next : length next ≡ length ws = length-each 0 (upto (r + 1) ps o) ws in
-    ext-getD 0 (set now r new) next (length-set now r new ∙ len ∙ sym len-next)
-    (λ k h.
-    let l : k < length ws = omega (arith, length-set now r new) in
-    elim (cases-eq k r) [
-      | inl s ↦
-          let old : getD now r 0 ≡ getD ws r 0 =
-          getD-each (upto r ps o) ws r (omega arith) ∙ upto-past r ps o r (getD ws r 0) (omega arith)
-          in
-          ap (λ (x : ℕ). getD (set now r new) x 0) s
-          ∙ getD-set-same now r new 0 (omega arith)
-          ∙ ap (changed (o .action)) old
-          ∙ sym (left-new ps o r (getD ws r 0) e)
-          ∙ sym (upto-done (r + 1) ps o r (getD ws r 0) (omega arith))
-          ∙ sym (getD-each (upto (r + 1) ps o) ws r (omega arith))
-          ∙ ap (λ (x : ℕ). getD next x 0) (sym s)
-      | inr s ↦
-          getD-set-other now r k new 0 s
-          ∙ getD-each (upto r ps o) ws k l
-          ∙ upto-else r ps o k (getD ws k 0) s
-          ∙ sym (getD-each (upto (r + 1) ps o) ws k l)
-    ])
 
 -- an action that leaves each word leaves the shelf
 pub after-still : (ps : List ℕ) (o : Operation) (ws : List ℕ) → ((w : ℕ) → changed (o .action) w ≡ w) → after ps o ws ≡ ws

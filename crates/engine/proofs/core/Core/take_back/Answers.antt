@@ -10,12 +10,17 @@ use Rattle.std.proofs.shelf.Lists.{getD-past}
 use Rattle.engine.specs.declared.noted.Noted.{Noted}
 use Rattle.engine.specs.Grids.{cell}
 use Rattle.engine.proofs.Grids.{long-at}
-use Rattle.engine.proofs.Sweeps.{sweep-none, sweep-more, sweep-all}
+use Rattle.operations.proofs.Sweeps.{sweep-from, sweep-more, sweep-all}
 use Rattle.engine.proofs.core.Core.take_back.Needs as need
 
 pub loop-place-holds : need.loop-place-holds
 loop-place-holds g c =
-    (sweep-none (λ r w. back (cell Nothing (c .args .self .now .noted .rows) (c .args .slot) r) w) (g .S·Shelf .words (c .args .self .now .shelf)), refl, refl, refl)
+    ( sweep-from 0 (λ r w. back (cell Nothing (c .args .self .now .noted .rows) (c .args .slot) r) w) (g .S·Shelf .words (c .args .self .now .shelf))
+      (λ k w h. absurd (omega arith))
+    , refl
+    , refl
+    , refl
+    )
 
 pub loop-place-again : need.loop-place-again
 loop-place-again g c =

@@ -4,7 +4,7 @@ use Rattle.ledger.specs.declared.job.Note.the-variants.{Nothing}
 use Rattle.ledger.specs.Models.{back}
 use Rattle.operations.specs.Words.{each-from}
 use Rattle.engine.specs.Grids.{cell}
-use Rattle.engine.proofs.Sweeps.{swept}
+use Rattle.operations.proofs.Sweeps.{swept}
 use Rattle.engine.proofs.core.Core.take_back.Given as given
 
 abbrev pub Inv-loop-place : given.InvT-loop-place

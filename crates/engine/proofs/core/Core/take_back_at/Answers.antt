@@ -1,6 +1,6 @@
 use mathlib.Core.Path.{refl, sym, _∙_}
 use Rattle.std.proofs.shelf.Lists.{set-past}
-use Rattle.engine.proofs.Sweeps.{at-none}
+use Rattle.engine.proofs.Words.{at-none}
 use Rattle.engine.proofs.core.Core.take_back_at.Needs as need
 
 pub returns-in-rest : need.returns-in-rest

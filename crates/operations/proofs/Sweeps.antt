@@ -7,12 +7,10 @@ use Prim.Native.Nat.{ℕ, _+_, _≤_, _<_}
 use native.Mathlib.Omega.{arith}
 use lib.Dec.{ltb}
 use lib.ListN.{length, getD, set}
-use Rattle.std.specs.declared.option.Option.the-variants.{Some, None}
 use Rattle.std.proofs.shelf.Lists.{ext-getD, length-set, getD-set-same, getD-set-other}
 use Rattle.std.proofs.shelf.Tests.{cases-eq, cases-lt, cond-true, cond-false, lt-ltb, le-ltb}
-use Rattle.shelf.specs.Words.{at}
 use Rattle.operations.specs.Words.{each-from}
 use Rattle.operations.proofs.Places.{each-same, each-still, length-each, getD-each}
 
 -- what is left at place k when the change has come as far as place r
 abbrev pub swept : ℕ → (ℕ → ℕ → ℕ) → ℕ → ℕ → ℕ
@@ -24,14 +22,42 @@ swept-done r f k w h = cond-true (ltb k r) (f k w) w (lt-ltb k r h)
 swept-past : (r : ℕ) (f : ℕ → ℕ → ℕ) (k w : ℕ) → r ≤ k → swept r f k w ≡ w
 swept-past r f k w h = cond-false (ltb k r) (f k w) w (le-ltb k r h)
 
-pub sweep-none : (f : ℕ → ℕ → ℕ) (ws : List ℕ) → ws ≡ each-from 0 (swept 0 f) ws
-sweep-none f ws = sym (each-still 0 (swept 0 f) ws (λ k w. swept-past 0 f k w (omega arith)))
+-- before the first place that changes nothing has
+pub sweep-from : (r : ℕ) (f : ℕ → ℕ → ℕ) (ws : List ℕ) → ((k w : ℕ) → k < r → f k w ≡ w) → ws ≡ each-from 0 (swept r f) ws
+sweep-from r f ws h =
+    sym
+    (each-still 0 (swept r f) ws
+    (λ k w. elim (cases-lt k r) [ inl l ↦ swept-done r f k w l ∙ h k w l | inr l ↦ swept-past r f k w l ]))
 
+-- past the last one all has
 pub sweep-all : (n : ℕ) (f : ℕ → ℕ → ℕ) (ws : List ℕ) → ((k w : ℕ) → n ≤ k → f k w ≡ w) → each-from 0 (swept n f) ws ≡ each-from 0 f ws
 sweep-all n f ws h =
     each-same 0 (swept n f) f ws
     (λ k w. elim (cases-lt k n) [ inl l ↦ swept-done n f k w l | inr l ↦ swept-past n f k w l ∙ sym (h k w l) ])
 
+-- one place more makes no difference at the others
+swept-else : (r : ℕ) (f : ℕ → ℕ → ℕ) (k w : ℕ) → (k ≡ r → ⊥) → swept r f k w ≡ swept (r + 1) f k w
+swept-else r f k w s =
+    elim (cases-lt k r)
+    [ inl l ↦ swept-done r f k w l ∙ sym (swept-done (r + 1) f k w (omega arith))
+    | inr l ↦ swept-past r f k w l ∙ sym (swept-past (r + 1) f k w (omega arith))
+    ]
+
+-- a place that does not change need not be written
+pub sweep-skip : (r : ℕ) (f : ℕ → ℕ → ℕ) (ws : List ℕ) → ((w : ℕ) → f r w ≡ w) → each-from 0 (swept r f) ws ≡ each-from 0 (swept (r + 1) f) ws
+sweep-skip r f ws h =
+    each-same 0 (swept r f) (swept (r + 1) f) ws
+    (λ k w.
+        elim (cases-eq k r)
+        [ inl s ↦
+            swept-past r f k w (omega arith)
+            ∙ sym (h w)
+            ∙ ap (λ (x : ℕ). f x w) (sym s)
+            ∙ sym (swept-done (r + 1) f k w (omega arith))
+        | inr s ↦ swept-else r f k w s
+        ])
+
+-- a place written is one place more
 pub sweep-more :
   (r : ℕ) (f : ℕ → ℕ → ℕ) (ws : List ℕ)
   → set (each-from 0 (swept r f) ws) r (f r (getD (each-from 0 (swept r f) ws) r 0)) ≡ each-from 0 (swept (r + 1) f) ws
@@ -58,33 +84,6 @@ sweep-more r f ws =
         | inr s ↦
             getD-set-other now r k new 0 s
             ∙ getD-each (swept r f) ws k l
-            ∙ elim (cases-lt k r)
-              [ inl b ↦ swept-done r f k (getD ws k 0) b ∙ sym (swept-done (r + 1) f k (getD ws k 0) (omega arith))
-              | inr b ↦ swept-past r f k (getD ws k 0) b ∙ sym (swept-past (r + 1) f k (getD ws k 0) (omega arith))
-              ]
+            ∙ swept-else r f k (getD ws k 0) s
             ∙ sym (getD-each (swept (r + 1) f) ws k l)
         ])
-
--- a place that has no word is outside
-pub at-none : (ws : List ℕ) (place : ℕ) → at ws place ≡ None → length ws ≤ place
-at-none ws place e =
-    elim (cases-lt place (length ws))
-    [ inl l ↦
-        let s : Some (getD ws place 0) ≡ None = sym (cond-true (ltb place (length ws)) (Some (getD ws place 0)) None (lt-ltb place (length ws) l)) ∙ e in
-        let z : _≡_ {A = ℕ} 0 1 = cc in
-        absurd (omega arith)
-    | inr l ↦ l
-    ]
-
-pub at-some : (ws : List ℕ) (place w : ℕ) → at ws place ≡ Some w → w ≡ getD ws place 0
-at-some ws place w e =
-    elim (cases-lt place (length ws))
-    [ inl l ↦
-        let s : Some (getD ws place 0) ≡ Some w = sym (cond-true (ltb place (length ws)) (Some (getD ws place 0)) None (lt-ltb place (length ws) l)) ∙ e in
-        let v : w ≡ getD ws place 0 = cc in
-        v
-    | inr l ↦
-        let s : None ≡ Some w = sym (cond-false (ltb place (length ws)) (Some (getD ws place 0)) None (le-ltb place (length ws) l)) ∙ e in
-        let v : w ≡ getD ws place 0 = cc in
-        v
-    ]
