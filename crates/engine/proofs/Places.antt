@@ -1,17 +1,18 @@
 -- The first place of a number in a list, and lists whose numbers are apart and given.
 use mathlib.Core.Path.{_≡_, refl, sym, _∙_, ap, subst}
-use mathlib.Core.Logic.{inl, inr}
+use mathlib.Core.Logic.{inl, inr, _⊎_}
 use mathlib.Core.Bool.{Bool, true, false, not, _&&_, _||_}
 use mathlib.Core.List.{List, [], _∷_}
 use Prim.Native.Nat.{ℕ, zero, suc, _+_, _<_, _≤_}
 use native.Mathlib.Omega.{arith}
-use lib.Dec.{eqb, leb}
+use lib.Dec.{eqb, ltb, leb}
 use lib.ListN.{length, getD, set}
-use Rattle.std.proofs.shelf.Tests.{cases-eq, cases-bool, and-parts, and-from, or-cases, or-left, or-right, or-parts, or-from, both-ways, not-true, not-from-false, eq-eqb, ne-eqb, eqb-true, le-leb, leb-true}
+use Rattle.std.proofs.shelf.Tests.{cases-eq, cases-lt, cases-bool, and-parts, and-left, and-right, cond-true, cond-false, lt-ltb, le-ltb, and-from, or-cases, or-left, or-right, or-parts, or-from, both-ways, not-true, not-from-false, eq-eqb, ne-eqb, eqb-true, le-leb, leb-true}
+use Rattle.std.specs.Iters.{folded}
 use Rattle.granules.specs.Paths.{among}
 use Rattle.ledger.specs.declared.job.Status.{Status}
 use Rattle.ledger.specs.Jobs.{is-ended}
-use Rattle.engine.specs.Seats.{place, slot, distinct, all-given, busy}
+use Rattle.engine.specs.Seats.{place, slot, distinct, all-given, busy, nearer, next-above}
 
 place-here : (x : ℕ) (xs : List ℕ) (k : ℕ) → x ≡ k → place (x ∷ xs) k ≡ 0
 place-here x xs k e = let t = eq-eqb x k e in rw (t, place)
@@ -148,3 +149,124 @@ busy-leave (x ∷ xs) (s ∷ ss) zero e =
 busy-leave (x ∷ xs) (s ∷ ss) (suc i) e =
     let p = and-parts (eqb x 0 || not (is-ended s)) (busy xs ss) e in
     and-from (eqb x 0 || not (is-ended s)) (busy (set xs i 0) ss) (p .0) (busy-leave xs ss i (p .1))
+
+-- the better of two is one of them, is above n if it is any, and is not above the other
+nearer-new : (n b x : ℕ) → n < x → (b ≡ 0) ⊎ (x < b) → nearer n b x ≡ x
+nearer-new n b x l h =
+    cond-true (ltb n x && (eqb b 0 || ltb x b)) x b
+    (and-from (ltb n x) (eqb b 0 || ltb x b) (lt-ltb n x l)
+    (elim h [ inl z ↦ or-left (eqb b 0) (ltb x b) (eq-eqb b 0 z) | inr m ↦ or-right (eqb b 0) (ltb x b) (lt-ltb x b m) ]))
+
+nearer-old : (n b x : ℕ) → (n < x → (b ≡ 0 → ⊥) × (b ≤ x)) → nearer n b x ≡ b
+nearer-old n b x h =
+    cond-false (ltb n x && (eqb b 0 || ltb x b)) x b
+    (elim (cases-lt n x)
+    [ inl l ↦
+        and-right (ltb n x) (eqb b 0 || ltb x b)
+        (or-from (eqb b 0) (ltb x b) (ne-eqb b 0 (h l .0)) (le-ltb x b (h l .1)))
+    | inr l ↦ and-left (ltb n x) (eqb b 0 || ltb x b) (le-ltb n x l)
+    ])
+
+-- What a search for the next number finds, that began with b: it is above n; it is at most b and any number above n that it
+-- met; and it is one of these.
+pub record Nearest (n b : ℕ) (xs : List ℕ) (r : ℕ) : Type 0 where
+  pub above : (r ≡ 0 → ⊥) → n < r
+  pub not-past : (b ≡ 0 → ⊥) → (r ≡ 0 → ⊥) × (r ≤ b)
+  pub least : (x : ℕ) → among x xs ≡ true → n < x → (r ≡ 0 → ⊥) × (r ≤ x)
+  pub found : (r ≡ 0 → ⊥) → (r ≡ b) ⊎ (among r xs ≡ true)
+
+nearest : (n : ℕ) (xs : List ℕ) (b : ℕ) → ((b ≡ 0 → ⊥) → n < b) → Nearest n b xs (folded (nearer n) b xs)
+nearest n [] b h =
+    record
+    { above = h
+    ; not-past = λ z. (z, omega arith)
+    ; least = λ x e. absurd (both-ways false refl e)
+    ; found = λ z. inl refl
+    }
+nearest n (x ∷ xs) b h =
+    let rest : (c : ℕ) → ((c ≡ 0 → ⊥) → n < c) → Nearest n c xs (folded (nearer n) c xs) = λ c g. nearest n xs c g in
+    elim (cases-lt n x)
+    [ inl l ↦
+        elim (cases-eq b 0)
+        [ inl z ↦ taken rest l (inl z) (λ d. absurd (d z))
+        | inr z ↦
+            elim (cases-lt x b)
+            [ inl m ↦ taken rest l (inr m) (λ d. omega arith)
+            | inr m ↦ left rest (λ _. (z, m))
+            ]
+        ]
+    | inr l ↦ left rest (λ k. absurd (omega arith))
+    ]
+  where
+    met : (b′ y : ℕ) → Nearest n b′ xs (folded (nearer n) b′ xs) → among y (x ∷ xs) ≡ true → n < y
+      → (n < x → (folded (nearer n) b′ xs ≡ 0 → ⊥) × (folded (nearer n) b′ xs ≤ x))
+      → (folded (nearer n) b′ xs ≡ 0 → ⊥) × (folded (nearer n) b′ xs ≤ y)
+    met b′ y r e k here =
+        elim (or-cases (eqb y x) (among y xs) e)
+        [ inl s ↦
+            let same = eqb-true y x s in
+            let p = here (omega arith) in
+            (p .0, omega (arith, p .1))
+        | inr s ↦ r .least y s k
+        ]
+    taken : ((c : ℕ) → ((c ≡ 0 → ⊥) → n < c) → Nearest n c xs (folded (nearer n) c xs)) → n < x → (b ≡ 0) ⊎ (x < b) → ((b ≡ 0 → ⊥) → x ≤ b) → Nearest n b (x ∷ xs) (folded (nearer n) b (x ∷ xs))
+    taken rest l c under =
+        subst (λ (b′ : ℕ). Nearest n b (x ∷ xs) (folded (nearer n) b′ xs)) (sym (nearer-new n b x l c))
+        (let r = rest x (λ _. l) in
+        let z : x ≡ 0 → ⊥ = λ e. omega arith in
+        let p = r .not-past z in
+        record
+        { above = r .above
+        ; not-past = λ d. (p .0, omega (arith, under d, p .1))
+        ; least = λ y e k. met x y r e k (λ _. p)
+        ; found =
+            λ d.
+                elim (r .found d)
+                [ inl e ↦ inr (or-left (eqb (folded (nearer n) x xs) x) (among (folded (nearer n) x xs) xs) (eq-eqb (folded (nearer n) x xs) x e))
+                | inr e ↦ inr (or-right (eqb (folded (nearer n) x xs) x) (among (folded (nearer n) x xs) xs) e)
+                ]
+        })
+    left : ((c : ℕ) → ((c ≡ 0 → ⊥) → n < c) → Nearest n c xs (folded (nearer n) c xs)) → (n < x → (b ≡ 0 → ⊥) × (b ≤ x)) → Nearest n b (x ∷ xs) (folded (nearer n) b (x ∷ xs))
+    left rest c =
+        subst (λ (b′ : ℕ). Nearest n b (x ∷ xs) (folded (nearer n) b′ xs)) (sym (nearer-old n b x c))
+        (let r = rest b h in
+        record
+        { above = r .above
+        ; not-past = r .not-past
+        ; least =
+            λ y e k.
+                met b y r e k
+                (λ l.
+                    let p = r .not-past (c l .0) in
+                    (p .0, omega (arith, p .1, c l .1)))
+        ; found =
+            λ d.
+                elim (r .found d)
+                [ inl e ↦ inl e
+                | inr e ↦ inr (or-right (eqb (folded (nearer n) b xs) x) (among (folded (nearer n) b xs) xs) e)
+                ]
+        })
+
+pub next-nearest : (n : ℕ) (numbers : List ℕ) → Nearest n 0 numbers (next-above n numbers)
+next-nearest n numbers = nearest n numbers 0 (λ d. absurd (d refl))
+
+-- a number that stands in a list has a place there, and the other way round
+pub among-place : (xs : List ℕ) (k : ℕ) → among k xs ≡ true → place xs k < length xs
+among-place [] k e = absurd (both-ways false refl e)
+among-place (x ∷ xs) k e =
+    elim (cases-eq x k)
+    [ inl s ↦ omega (arith, place-here x xs k s)
+    | inr s ↦
+        elim (or-cases (eqb k x) (among k xs) e)
+        [ inl t ↦ absurd (s (sym (eqb-true k x t)))
+        | inr t ↦ omega (arith, place-later x xs k s, among-place xs k t)
+        ]
+    ]
+
+pub place-among : (xs : List ℕ) (k : ℕ) → place xs k < length xs → among k xs ≡ true
+place-among [] k l = absurd (omega arith)
+place-among (x ∷ xs) k l =
+    elim (cases-eq x k)
+    [ inl s ↦ or-left (eqb k x) (among k xs) (eq-eqb k x (sym s))
+    | inr s ↦ or-right (eqb k x) (among k xs) (place-among xs k (omega (arith, place-later x xs k s)))
+    ]

@@ -1,9 +1,10 @@
 -- Which job sits in which of the 16 slots, and in what state.
-use mathlib.Core.Bool.{Bool, true, false, not, _&&_, _||_}
+use mathlib.Core.Bool.{Bool, true, false, not, _&&_, _||_, cond}
 use mathlib.Core.List.{List, [], _∷_}
 use Prim.Native.Nat.{ℕ, suc}
-use lib.Dec.{eqb, leb}
+use lib.Dec.{eqb, ltb, leb}
 use lib.ListN.{length, getD}
+use Rattle.std.specs.Iters.{folded}
 use Rattle.granules.specs.Paths.{among}
 use Rattle.ledger.specs.declared.job.Status.{Status}
 use Rattle.ledger.specs.declared.job.Status.the-variants.{Ended}
@@ -37,3 +38,11 @@ abbrev pub busy : List ℕ → List Status → Bool
 busy [] states = true
 busy (x ∷ xs) [] = true
 busy (x ∷ xs) (s ∷ ss) = (eqb x 0 || not (is-ended s)) && busy xs ss
+
+-- The better of a number so far, 0 for none, and another: the smaller of those above n.
+abbrev pub nearer : ℕ → ℕ → ℕ → ℕ
+nearer n best x = cond (ltb n x && (eqb best 0 || ltb x best)) x best
+
+-- The smallest number above n; 0 if there is none.
+abbrev pub next-above : ℕ → List ℕ → ℕ
+next-above n numbers = folded (nearer n) 0 numbers

@@ -2,9 +2,20 @@
 ghost use mathlib.Core.Path.{_≡_};
 ghost use Prim.Native.Nat.{ℕ, _<_, _≤_};
 ghost use lib.ListN.{getD};
-ghost use Rattle.engine.specs.Seats.{place, slot, status-of};
+ghost use Rattle.engine.specs.Seats.{nearer, next-above, place, slot, status-of};
 use super::Seats;
 use ledger::Status;
+
+// The better of a number so far, 0 for none, and another: the smaller of those above `than`.
+fn nearer(than: u32, best: u32, number: u32) -> u32
+    ensures value { λ r. ⌜ r ≡ nearer than best number ⌝ }
+{
+    if than < number && (best == 0 || number < best) {
+        number
+    } else {
+        best
+    }
+}
 
 impl Seats {
     // The last number that was given.
@@ -65,5 +76,16 @@ impl Seats {
             return Status::Ended;
         }
         self.states[slot]
+    }
+
+    // The oldest job that is younger than a number, or 0.
+    pub fn next_above(&self, number: u32) -> u32
+        ensures value { λ r. ⌜ r ≡ next-above number (now (self .entry) .numbers) ⌝ }
+    {
+        let mut best = 0;
+        for s in 0..16 {
+            best = nearer(number, best, self.numbers[s]);
+        }
+        best
     }
 }
