@@ -2,3 +2,4 @@ pub mod Places
 pub mod Grids
 pub mod Words
 pub mod Views
+pub mod Wounds

@@ -2,3 +2,4 @@ pub mod Slots
 pub mod Seats
 pub mod Grids
 pub mod Views
+pub mod Wounds
