@@ -24,5 +24,5 @@ long-at (r ∷ rows) zero l e = eqb-true (length r) 256 (and-parts (eqb (length 
 long-at (r ∷ rows) (suc s) l e = long-at rows s (omega arith) (and-parts (eqb (length r) 256) (all-long rows) e .1)
 
 pub long-put :
-  {A : Type 0} (rows : List (List A)) (s x : ℕ) (v : A) → s < length rows → all-long rows ≡ true → all-long (with-cell rows s x v) ≡ true
+    {A : Type 0} (rows : List (List A)) (s x : ℕ) (v : A) → s < length rows → all-long rows ≡ true → all-long (with-cell rows s x v) ≡ true
 long-put rows s x v l e = long-set rows s (set (getD rows s []) x v) (length-set (getD rows s []) x v ∙ long-at rows s l e) e

@@ -22,7 +22,7 @@ place-later x xs k e = let t = ne-eqb x k e in rw (t, place)
 
 -- a number that stands at i, and at no place before, has its first place there
 pub place-found :
-  (xs : List ℕ) (k i : ℕ) → i < length xs → getD xs i 0 ≡ k → ((j : ℕ) → j < i → getD xs j 0 ≡ k → ⊥) → place xs k ≡ i
+    (xs : List ℕ) (k i : ℕ) → i < length xs → getD xs i 0 ≡ k → ((j : ℕ) → j < i → getD xs j 0 ≡ k → ⊥) → place xs k ≡ i
 place-found [] k i l e n = absurd (omega arith)
 place-found (x ∷ xs) k zero l e n = place-here x xs k e
 place-found (x ∷ xs) k (suc i) l e n =
@@ -37,11 +37,11 @@ place-none (x ∷ xs) k n = place-later x xs k (n 0 (omega arith)) ∙ ap suc (p
 pub place-at : (xs : List ℕ) (k : ℕ) → place xs k < length xs → getD xs (place xs k) 0 ≡ k
 place-at [] k l = absurd (omega arith)
 place-at (x ∷ xs) k l =
-    elim (cases-eq x k)
-    [ inl e ↦ ap (λ (i : ℕ). getD (x ∷ xs) i 0) (place-here x xs k e) ∙ e
-    | inr e ↦
-        ap (λ (i : ℕ). getD (x ∷ xs) i 0) (place-later x xs k e)
-        ∙ place-at xs k (omega (arith, place-later x xs k e))
+    elim (cases-eq x k) [
+      | inl e ↦ ap (λ (i : ℕ). getD (x ∷ xs) i 0) (place-here x xs k e) ∙ e
+      | inr e ↦
+          ap (λ (i : ℕ). getD (x ∷ xs) i 0) (place-later x xs k e)
+          ∙ place-at xs k (omega (arith, place-later x xs k e))
     ]
 
 -- numbers that were given stay so when more are
@@ -88,11 +88,11 @@ distinct-new n (x ∷ xs) (suc i) v h g e =
     let q = and-parts (leb x n) (all-given n xs) g in
     let le = leb-true x n (q .0) in
     and-from (eqb x 0 || not (among x (set xs i v))) (distinct (set xs i v))
-    (elim (or-cases (eqb x 0) (not (among x xs)) (p .0))
-    [ inl z ↦ or-left (eqb x 0) (not (among x (set xs i v))) z
-    | inr a ↦
-        or-right (eqb x 0) (not (among x (set xs i v)))
-        (not-from-false (among x (set xs i v)) (among-set xs i v x (λ (z : x ≡ v). omega arith) (not-true (among x xs) a)))
+    (elim (or-cases (eqb x 0) (not (among x xs)) (p .0)) [
+      | inl z ↦ or-left (eqb x 0) (not (among x (set xs i v))) z
+      | inr a ↦
+          or-right (eqb x 0) (not (among x (set xs i v)))
+          (not-from-false (among x (set xs i v)) (among-set xs i v x (λ (z : x ≡ v). omega arith) (not-true (among x xs) a)))
     ])
     (distinct-new n xs i v h (q .1) (p .1))
 
@@ -105,15 +105,15 @@ distinct-free (x ∷ xs) zero e =
 distinct-free (x ∷ xs) (suc i) e =
     let p = and-parts (eqb x 0 || not (among x xs)) (distinct xs) e in
     and-from (eqb x 0 || not (among x (set xs i 0))) (distinct (set xs i 0))
-    (elim (cases-eq x 0)
-    [ inl z ↦ or-left (eqb x 0) (not (among x (set xs i 0))) (eq-eqb x 0 z)
-    | inr z ↦
-        elim (or-cases (eqb x 0) (not (among x xs)) (p .0))
-        [ inl y ↦ absurd (z (eqb-true x 0 y))
-        | inr a ↦
-            or-right (eqb x 0) (not (among x (set xs i 0)))
-            (not-from-false (among x (set xs i 0)) (among-set xs i 0 x z (not-true (among x xs) a)))
-        ]
+    (elim (cases-eq x 0) [
+      | inl z ↦ or-left (eqb x 0) (not (among x (set xs i 0))) (eq-eqb x 0 z)
+      | inr z ↦
+          elim (or-cases (eqb x 0) (not (among x xs)) (p .0)) [
+            | inl y ↦ absurd (z (eqb-true x 0 y))
+            | inr a ↦
+                or-right (eqb x 0) (not (among x (set xs i 0)))
+                (not-from-false (among x (set xs i 0)) (among-set xs i 0 x z (not-true (among x xs) a)))
+          ]
     ])
     (distinct-free xs i (p .1))
 
@@ -160,11 +160,11 @@ nearer-new n b x l h =
 nearer-old : (n b x : ℕ) → (n < x → (b ≡ 0 → ⊥) × (b ≤ x)) → nearer n b x ≡ b
 nearer-old n b x h =
     cond-false (ltb n x && (eqb b 0 || ltb x b)) x b
-    (elim (cases-lt n x)
-    [ inl l ↦
-        and-right (ltb n x) (eqb b 0 || ltb x b)
-        (or-from (eqb b 0) (ltb x b) (ne-eqb b 0 (h l .0)) (le-ltb x b (h l .1)))
-    | inr l ↦ and-left (ltb n x) (eqb b 0 || ltb x b) (le-ltb n x l)
+    (elim (cases-lt n x) [
+      | inl l ↦
+          and-right (ltb n x) (eqb b 0 || ltb x b)
+          (or-from (eqb b 0) (ltb x b) (ne-eqb b 0 (h l .0)) (le-ltb x b (h l .1)))
+      | inr l ↦ and-left (ltb n x) (eqb b 0 || ltb x b) (le-ltb n x l)
     ])
 
 -- What a search for the next number finds, that began with b: it is above n; it is at most b and any number above n that it
@@ -177,74 +177,76 @@ pub record Nearest (n b : ℕ) (xs : List ℕ) (r : ℕ) : Type 0 where
 
 nearest : (n : ℕ) (xs : List ℕ) (b : ℕ) → ((b ≡ 0 → ⊥) → n < b) → Nearest n b xs (folded (nearer n) b xs)
 nearest n [] b h =
-    record
-    { above = h
-    ; not-past = λ z. (z, omega arith)
-    ; least = λ x e. absurd (both-ways false refl e)
-    ; found = λ z. inl refl
+    record {
+      above = h;
+      not-past = λ z. (z, omega arith);
+      least = λ x e. absurd (both-ways false refl e);
+      found = λ z. inl refl;
     }
 nearest n (x ∷ xs) b h =
     let rest : (c : ℕ) → ((c ≡ 0 → ⊥) → n < c) → Nearest n c xs (folded (nearer n) c xs) = λ c g. nearest n xs c g in
-    elim (cases-lt n x)
-    [ inl l ↦
-        elim (cases-eq b 0)
-        [ inl z ↦ taken rest l (inl z) (λ d. absurd (d z))
-        | inr z ↦
-            elim (cases-lt x b)
-            [ inl m ↦ taken rest l (inr m) (λ d. omega arith)
-            | inr m ↦ left rest (λ _. (z, m))
-            ]
-        ]
-    | inr l ↦ left rest (λ k. absurd (omega arith))
+    elim (cases-lt n x) [
+      | inl l ↦
+          elim (cases-eq b 0) [
+            | inl z ↦ taken rest l (inl z) (λ d. absurd (d z))
+            | inr z ↦
+                elim (cases-lt x b) [
+                  | inl m ↦ taken rest l (inr m) (λ d. omega arith)
+                  | inr m ↦ left rest (λ _. (z, m))
+                ]
+          ]
+      | inr l ↦ left rest (λ k. absurd (omega arith))
     ]
   where
     met : (b′ y : ℕ) → Nearest n b′ xs (folded (nearer n) b′ xs) → among y (x ∷ xs) ≡ true → n < y
-      → (n < x → (folded (nearer n) b′ xs ≡ 0 → ⊥) × (folded (nearer n) b′ xs ≤ x))
-      → (folded (nearer n) b′ xs ≡ 0 → ⊥) × (folded (nearer n) b′ xs ≤ y)
+        → (n < x → (folded (nearer n) b′ xs ≡ 0 → ⊥) × (folded (nearer n) b′ xs ≤ x))
+        → (folded (nearer n) b′ xs ≡ 0 → ⊥) × (folded (nearer n) b′ xs ≤ y)
     met b′ y r e k here =
-        elim (or-cases (eqb y x) (among y xs) e)
-        [ inl s ↦
-            let same = eqb-true y x s in
-            let p = here (omega arith) in
-            (p .0, omega (arith, p .1))
-        | inr s ↦ r .least y s k
+        elim (or-cases (eqb y x) (among y xs) e) [
+          | inl s ↦
+              let same = eqb-true y x s in
+              let p = here (omega arith) in
+              (p .0, omega (arith, p .1))
+          | inr s ↦ r .least y s k
         ]
+
     taken : ((c : ℕ) → ((c ≡ 0 → ⊥) → n < c) → Nearest n c xs (folded (nearer n) c xs)) → n < x → (b ≡ 0) ⊎ (x < b) → ((b ≡ 0 → ⊥) → x ≤ b) → Nearest n b (x ∷ xs) (folded (nearer n) b (x ∷ xs))
     taken rest l c under =
         subst (λ (b′ : ℕ). Nearest n b (x ∷ xs) (folded (nearer n) b′ xs)) (sym (nearer-new n b x l c))
         (let r = rest x (λ _. l) in
         let z : x ≡ 0 → ⊥ = λ e. omega arith in
         let p = r .not-past z in
-        record
-        { above = r .above
-        ; not-past = λ d. (p .0, omega (arith, under d, p .1))
-        ; least = λ y e k. met x y r e k (λ _. p)
-        ; found =
-            λ d.
-                elim (r .found d)
-                [ inl e ↦ inr (or-left (eqb (folded (nearer n) x xs) x) (among (folded (nearer n) x xs) xs) (eq-eqb (folded (nearer n) x xs) x e))
+        record {
+          above = r .above;
+          not-past = λ d. (p .0, omega (arith, under d, p .1));
+          least = λ y e k. met x y r e k (λ _. p);
+          found =
+              λ d.
+              elim (r .found d) [
+                | inl e ↦ inr (or-left (eqb (folded (nearer n) x xs) x) (among (folded (nearer n) x xs) xs) (eq-eqb (folded (nearer n) x xs) x e))
                 | inr e ↦ inr (or-right (eqb (folded (nearer n) x xs) x) (among (folded (nearer n) x xs) xs) e)
-                ]
+              ];
         })
+
     left : ((c : ℕ) → ((c ≡ 0 → ⊥) → n < c) → Nearest n c xs (folded (nearer n) c xs)) → (n < x → (b ≡ 0 → ⊥) × (b ≤ x)) → Nearest n b (x ∷ xs) (folded (nearer n) b (x ∷ xs))
     left rest c =
         subst (λ (b′ : ℕ). Nearest n b (x ∷ xs) (folded (nearer n) b′ xs)) (sym (nearer-old n b x c))
         (let r = rest b h in
-        record
-        { above = r .above
-        ; not-past = r .not-past
-        ; least =
-            λ y e k.
-                met b y r e k
-                (λ l.
-                    let p = r .not-past (c l .0) in
-                    (p .0, omega (arith, p .1, c l .1)))
-        ; found =
-            λ d.
-                elim (r .found d)
-                [ inl e ↦ inl e
+        record {
+          above = r .above;
+          not-past = r .not-past;
+          least =
+              λ y e k.
+              met b y r e k
+              (λ l.
+              let p = r .not-past (c l .0) in
+              (p .0, omega (arith, p .1, c l .1)));
+          found =
+              λ d.
+              elim (r .found d) [
+                | inl e ↦ inl e
                 | inr e ↦ inr (or-right (eqb (folded (nearer n) b xs) x) (among (folded (nearer n) b xs) xs) e)
-                ]
+              ];
         })
 
 pub next-nearest : (n : ℕ) (numbers : List ℕ) → Nearest n 0 numbers (next-above n numbers)
@@ -254,19 +256,19 @@ next-nearest n numbers = nearest n numbers 0 (λ d. absurd (d refl))
 pub among-place : (xs : List ℕ) (k : ℕ) → among k xs ≡ true → place xs k < length xs
 among-place [] k e = absurd (both-ways false refl e)
 among-place (x ∷ xs) k e =
-    elim (cases-eq x k)
-    [ inl s ↦ omega (arith, place-here x xs k s)
-    | inr s ↦
-        elim (or-cases (eqb k x) (among k xs) e)
-        [ inl t ↦ absurd (s (sym (eqb-true k x t)))
-        | inr t ↦ omega (arith, place-later x xs k s, among-place xs k t)
-        ]
+    elim (cases-eq x k) [
+      | inl s ↦ omega (arith, place-here x xs k s)
+      | inr s ↦
+          elim (or-cases (eqb k x) (among k xs) e) [
+            | inl t ↦ absurd (s (sym (eqb-true k x t)))
+            | inr t ↦ omega (arith, place-later x xs k s, among-place xs k t)
+          ]
     ]
 
 pub place-among : (xs : List ℕ) (k : ℕ) → place xs k < length xs → among k xs ≡ true
 place-among [] k l = absurd (omega arith)
 place-among (x ∷ xs) k l =
-    elim (cases-eq x k)
-    [ inl s ↦ or-left (eqb k x) (among k xs) (eq-eqb k x (sym s))
-    | inr s ↦ or-right (eqb k x) (among k xs) (place-among xs k (omega (arith, place-later x xs k s)))
+    elim (cases-eq x k) [
+      | inl s ↦ or-left (eqb k x) (among k xs) (eq-eqb k x (sym s))
+      | inr s ↦ or-right (eqb k x) (among k xs) (place-among xs k (omega (arith, place-later x xs k s)))
     ]

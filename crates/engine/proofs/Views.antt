@@ -23,12 +23,12 @@ slot-some numbers k e = let t = ne-eqb k 0 e in rw (t, slot)
 -- a slot of the table has its job's number, which is not 0
 pub slot-number : (numbers : List ℕ) (k : ℕ) → slot numbers k < length numbers → (getD numbers (slot numbers k) 0 ≡ k) × (k ≡ 0 → ⊥)
 slot-number numbers k l =
-    elim (cases-eq k 0)
-    [ inl e ↦ absurd (omega (arith, slot-none numbers k e))
-    | inr e ↦
-        ( ap (λ (i : ℕ). getD numbers i 0) (slot-some numbers k e) ∙ place-at numbers k (omega (arith, slot-some numbers k e))
-        , e
-        )
+    elim (cases-eq k 0) [
+      | inl e ↦ absurd (omega (arith, slot-none numbers k e))
+      | inr e ↦ (
+        ap (λ (i : ℕ). getD numbers i 0) (slot-some numbers k e) ∙ place-at numbers k (omega (arith, slot-some numbers k e)),
+        e,
+      )
     ]
 
 -- two jobs do not share a slot
@@ -40,15 +40,15 @@ slot-own numbers j k e l =
 
 -- A row written at the slot of job k is what job k has, and nobody else.
 pub view-set :
-  {A : Type 0} (rows : List A) (d : A) (numbers : List ℕ) (k : ℕ) (v : A) → length rows ≡ length numbers → slot numbers k < length numbers
-  → (j : ℕ) → getD (set rows (slot numbers k) v) (slot numbers j) d ≡ put k v (λ i. getD rows (slot numbers i) d) j
+    {A : Type 0} (rows : List A) (d : A) (numbers : List ℕ) (k : ℕ) (v : A) → length rows ≡ length numbers → slot numbers k < length numbers
+    → (j : ℕ) → getD (set rows (slot numbers k) v) (slot numbers j) d ≡ put k v (λ i. getD rows (slot numbers i) d) j
 view-set rows d numbers k v e l j =
-    elim (cases-eq j k)
-    [ inl s ↦
-        ap (λ (i : ℕ). getD (set rows (slot numbers k) v) (slot numbers i) d) s
-        ∙ getD-set-same rows (slot numbers k) v d (omega arith)
-        ∙ sym (put-at k v (λ i. getD rows (slot numbers i) d) j s)
-    | inr s ↦
-        getD-set-other rows (slot numbers k) (slot numbers j) v d (λ (z : slot numbers j ≡ slot numbers k). s (slot-own numbers j k z l))
-        ∙ sym (put-other k v (λ i. getD rows (slot numbers i) d) j s)
+    elim (cases-eq j k) [
+      | inl s ↦
+          ap (λ (i : ℕ). getD (set rows (slot numbers k) v) (slot numbers i) d) s
+          ∙ getD-set-same rows (slot numbers k) v d (omega arith)
+          ∙ sym (put-at k v (λ i. getD rows (slot numbers i) d) j s)
+      | inr s ↦
+          getD-set-other rows (slot numbers k) (slot numbers j) v d (λ (z : slot numbers j ≡ slot numbers k). s (slot-own numbers j k z l))
+          ∙ sym (put-other k v (λ i. getD rows (slot numbers i) d) j s)
     ]

@@ -13,10 +13,10 @@ use Rattle.shelf.specs.Words.{at}
 -- a place that has no word is outside
 pub at-none : (ws : List ℕ) (place : ℕ) → at ws place ≡ None → length ws ≤ place
 at-none ws place e =
-    elim (cases-lt place (length ws))
-    [ inl l ↦
-        let s : Some (getD ws place 0) ≡ None = sym (cond-true (ltb place (length ws)) (Some (getD ws place 0)) None (lt-ltb place (length ws) l)) ∙ e in
-        let z : _≡_ {A = ℕ} 0 1 = cc in
-        absurd (omega arith)
-    | inr l ↦ l
+    elim (cases-lt place (length ws)) [
+      | inl l ↦
+          let s : Some (getD ws place 0) ≡ None = sym (cond-true (ltb place (length ws)) (Some (getD ws place 0)) None (lt-ltb place (length ws) l)) ∙ e in
+          let z : _≡_ {A = ℕ} 0 1 = cc in
+          absurd (omega arith)
+      | inr l ↦ l
     ]

@@ -19,8 +19,8 @@ use Rattle.engine.specs.Wounds.{wounded-one, upto, wounded-upto}
 
 -- models that agree in all parts
 pub model-eq :
-  (m n : Model) → m .jobs .opened ≡ n .jobs .opened → ((k : ℕ) → m .jobs .status k ≡ n .jobs .status k)
-  → ((k x : ℕ) → m .jobs .mode k x ≡ n .jobs .mode k x) → m .words ≡ n .words → ((k r : ℕ) → m .notes k r ≡ n .notes k r) → m ≡ n
+    (m n : Model) → m .jobs .opened ≡ n .jobs .opened → ((k : ℕ) → m .jobs .status k ≡ n .jobs .status k)
+    → ((k x : ℕ) → m .jobs .mode k x ≡ n .jobs .mode k x) → m .words ≡ n .words → ((k r : ℕ) → m .notes k r ≡ n .notes k r) → m ≡ n
 model-eq m n o s d w t =
     ap (λ (a : ℕ). mk a (m .jobs .status) (m .jobs .mode) (m .words) (m .notes)) o
     ∙ ap (λ (a : ℕ → Status). mk (n .jobs .opened) a (m .jobs .mode) (m .words) (m .notes)) (fun-ext s)
@@ -38,29 +38,29 @@ module _ (p : ℕ → Bool) where
   -- where the test picks nobody one may go on
   upto-skip : (n m : ℕ) → n ≤ m → ((k : ℕ) → n ≤ k → k < m → p k ≡ false) → (k : ℕ) → upto p n k ≡ upto p m k
   upto-skip n m l h k =
-      elim (cases-lt k n)
-      [ inl a ↦ ap (λ (b : Bool). p k && b) (lt-ltb k n a ∙ sym (lt-ltb k m (omega arith)))
-      | inr a ↦
-          elim (cases-lt k m)
-          [ inl b ↦ and-left (p k) (ltb k n) (h k a b) ∙ sym (and-left (p k) (ltb k m) (h k a b))
-          | inr b ↦ ap (λ (c : Bool). p k && c) (le-ltb k n a ∙ sym (le-ltb k m b))
-          ]
+      elim (cases-lt k n) [
+        | inl a ↦ ap (λ (b : Bool). p k && b) (lt-ltb k n a ∙ sym (lt-ltb k m (omega arith)))
+        | inr a ↦
+            elim (cases-lt k m) [
+              | inl b ↦ and-left (p k) (ltb k n) (h k a b) ∙ sym (and-left (p k) (ltb k m) (h k a b))
+              | inr b ↦ ap (λ (c : Bool). p k && c) (le-ltb k n a ∙ sym (le-ltb k m b))
+            ]
       ]
 
   back-skip :
-    (notes : ℕ → ℕ → Note) (ws : List ℕ) (n m : ℕ) → n ≤ m → ((k : ℕ) → n ≤ k → k < m → p k ≡ false)
-    → all-taken-back p notes n ws ≡ all-taken-back p notes m ws
+      (notes : ℕ → ℕ → Note) (ws : List ℕ) (n m : ℕ) → n ≤ m → ((k : ℕ) → n ≤ k → k < m → p k ≡ false)
+      → all-taken-back p notes n ws ≡ all-taken-back p notes m ws
   back-skip notes ws n zero l h = ap (λ (x : ℕ). all-taken-back p notes x ws) (zero-is l)
     where
       zero-is : n ≤ 0 → n ≡ 0
       zero-is l = omega arith
   back-skip notes ws n (suc m) l h =
-      elim (cases-eq n (suc m))
-      [ inl e ↦ ap (λ (x : ℕ). all-taken-back p notes x ws) e
-      | inr e ↦
-          let q = h m (omega arith) (omega arith) in
-          let step : all-taken-back p notes (suc m) ws ≡ all-taken-back p notes m ws = rw (q, all-taken-back) in
-          back-skip notes ws n m (omega arith) (λ k a b. h k a (omega arith)) ∙ sym step
+      elim (cases-eq n (suc m)) [
+        | inl e ↦ ap (λ (x : ℕ). all-taken-back p notes x ws) e
+        | inr e ↦
+            let q = h m (omega arith) (omega arith) in
+            let step : all-taken-back p notes (suc m) ws ≡ all-taken-back p notes m ws = rw (q, all-taken-back) in
+            back-skip notes ws n m (omega arith) (λ k a b. h k a (omega arith)) ∙ sym step
       ]
 
   pub skip : (m : Model) (n n′ : ℕ) → n ≤ n′ → ((k : ℕ) → n ≤ k → k < n′ → p k ≡ false) → wounded-upto p n m ≡ wounded-upto p n′ m
@@ -94,19 +94,19 @@ module _ (p : ℕ → Bool) where
     where
       over : {A : Type 0} (a : A) (f : ℕ → A) (k : ℕ) → where-so (λ j. eqb j n) a (where-so (upto p n) a f) k ≡ where-so (upto p (suc n)) a f k
       over a f k =
-          elim (cases-eq k n)
-          [ inl e ↦
-              where-true (λ j. eqb j n) a (where-so (upto p n) a f) k (eq-eqb k n e)
-              ∙ sym
+          elim (cases-eq k n) [
+            | inl e ↦
+                where-true (λ j. eqb j n) a (where-so (upto p n) a f) k (eq-eqb k n e)
+                ∙ sym
                 (where-true (upto p (suc n)) a f k
                 (and-from (p k) (ltb k (suc n)) (subst (λ (x : ℕ). p x ≡ true) (sym e) q) (lt-ltb k (suc n) (omega arith))))
-          | inr e ↦
-              where-false (λ j. eqb j n) a (where-so (upto p n) a f) k (ne-eqb k n e)
-              ∙ where-cong (upto p n) (upto p (suc n)) a f k
+            | inr e ↦
+                where-false (λ j. eqb j n) a (where-so (upto p n) a f) k (ne-eqb k n e)
+                ∙ where-cong (upto p n) (upto p (suc n)) a f k
                 (ap (λ (b : Bool). p k && b)
-                (elim (cases-lt k n)
-                [ inl l ↦ lt-ltb k n l ∙ sym (lt-ltb k (suc n) (omega arith))
-                | inr l ↦ le-ltb k n l ∙ sym (le-ltb k (suc n) (omega arith))
+                (elim (cases-lt k n) [
+                  | inl l ↦ lt-ltb k n l ∙ sym (lt-ltb k (suc n) (omega arith))
+                  | inr l ↦ le-ltb k n l ∙ sym (le-ltb k (suc n) (omega arith))
                 ]))
           ]
 
@@ -115,18 +115,18 @@ module _ (p : ℕ → Bool) where
   all m n l h =
       let last = suc (m .jobs .opened) in
       let none : (k : ℕ) → last ≤ k → p k ≡ false =
-        λ k a. elim (cases-bool (p k)) [ inl t ↦ absurd (omega (arith, h k t)) | inr t ↦ t ]
+      λ k a. elim (cases-bool (p k)) [ inl t ↦ absurd (omega (arith, h k t)) | inr t ↦ t ]
       in
       let same : (k : ℕ) → upto p last k ≡ p k =
-        λ k.
-          elim (cases-bool (p k))
-          [ inl t ↦ and-from (p k) (ltb k last) t (lt-ltb k last (h k t)) ∙ sym t
-          | inr t ↦ and-left (p k) (ltb k last) t ∙ sym t
-          ]
+      λ k.
+      elim (cases-bool (p k)) [
+        | inl t ↦ and-from (p k) (ltb k last) t (lt-ltb k last (h k t)) ∙ sym t
+        | inr t ↦ and-left (p k) (ltb k last) t ∙ sym t
+      ]
       in
       sym (skip m last n l (λ k a b. none k a))
       ∙ model-eq (wounded-upto p last m) (model-hands .wound p m) refl
-        (λ k. where-cong (upto p last) p Wounded (m .jobs .status) k (same k))
-        (λ k x. ap (λ (f : ℕ → ℕ). f x) (where-cong (upto p last) p (λ _. 0) (m .jobs .mode) k (same k)))
-        refl
-        (λ k r. ap (λ (f : ℕ → Note). f r) (where-cong (upto p last) p (λ _. Nothing) (m .notes) k (same k)))
+      (λ k. where-cong (upto p last) p Wounded (m .jobs .status) k (same k))
+      (λ k x. ap (λ (f : ℕ → ℕ). f x) (where-cong (upto p last) p (λ _. 0) (m .jobs .mode) k (same k)))
+      refl
+      (λ k r. ap (λ (f : ℕ → Note). f r) (where-cong (upto p last) p (λ _. Nothing) (m .notes) k (same k)))

@@ -15,10 +15,10 @@ use Rattle.engine.specs.Seats.{slot, status-of}
 -- A job holds and notes what stands in the row of its slot; one that sits nowhere holds and notes nothing.
 abbrev pub jobs-of : Seats → Held → Jobs
 jobs-of seats held =
-    record
-    { opened = seats .opened
-    ; status = status-of (seats .numbers) (seats .states)
-    ; mode = λ k x. cell 0 (held .rows) (slot (seats .numbers) k) x
+    record {
+      opened = seats .opened;
+      status = status-of (seats .numbers) (seats .states);
+      mode = λ k x. cell 0 (held .rows) (slot (seats .numbers) k) x;
     }
 
 abbrev pub notes-of : Seats → Noted → ℕ → ℕ → Note

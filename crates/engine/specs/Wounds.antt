@@ -9,10 +9,10 @@ use Rattle.ledger.specs.Models.{Model, taken-back, all-taken-back}
 -- job k wounded, with its work taken back
 abbrev pub wounded-one : ℕ → Model → Model
 wounded-one k m =
-    record
-    { jobs = wound-jobs (λ j. eqb j k) (m .jobs)
-    ; words = taken-back (m .notes k) (m .words)
-    ; notes = where-so (λ j. eqb j k) (λ _. Nothing) (m .notes)
+    record {
+      jobs = wound-jobs (λ j. eqb j k) (m .jobs);
+      words = taken-back (m .notes k) (m .words);
+      notes = where-so (λ j. eqb j k) (λ _. Nothing) (m .notes);
     }
 
 -- those below n that the test picks
@@ -21,8 +21,8 @@ upto p n k = p k && ltb k n
 
 abbrev pub wounded-upto : (ℕ → Bool) → ℕ → Model → Model
 wounded-upto p n m =
-    record
-    { jobs = wound-jobs (upto p n) (m .jobs)
-    ; words = all-taken-back p (m .notes) n (m .words)
-    ; notes = where-so (upto p n) (λ _. Nothing) (m .notes)
+    record {
+      jobs = wound-jobs (upto p n) (m .jobs);
+      words = all-taken-back p (m .notes) n (m .words);
+      notes = where-so (upto p n) (λ _. Nothing) (m .notes);
     }

@@ -1,7 +1,8 @@
 // The engine's parts, so far: none of them serves a call yet.
 //
-// A job that is not ended sits in one of 16 slots. Files: `judge` (what follows from one holder of a lock), `seats` (which
-// job sits in which slot), `slot` (how a job's state moves).
+// A job that is not ended sits in one of 16 slots. From the bottom: `judge` (what follows from one holder of a lock), `slot` (how
+// a job's state moves), `seats` (which job sits in which slot), `held` and `noted` (modes and notes, by slot and granule), `core`
+// (these and the shelf together, and how a job's work is taken back).
 pub mod core;
 pub mod held;
 pub mod judge;

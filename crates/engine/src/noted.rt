@@ -4,6 +4,7 @@ ghost use mathlib.Core.Path.{_≡_};
 ghost use lib.ListN.{length};
 ghost use Rattle.engine.specs.Grids.{all-long};
 use ledger::Note;
+
 pub mod cells;
 
 // A row for each of the 16 slots, with a cell for each of 256 granules.

@@ -35,7 +35,9 @@ impl Slot {
         self.state = match (self.state, event) {
             (Status::Ended, Event::Open) => Status::Working,
             (Status::Working | Status::Waiting(_), Event::Through) => Status::Working,
-            (Status::Working | Status::Waiting(_), Event::Stop(operation)) => Status::Waiting(operation),
+            (Status::Working | Status::Waiting(_), Event::Stop(operation)) => Status::Waiting(
+                operation,
+            ),
             (Status::Working | Status::Waiting(_), Event::Wound) => Status::Wounded,
             (Status::Wounded, Event::Reopen) => Status::Working,
             (Status::Working | Status::Waiting(_) | Status::Wounded, Event::End) => Status::Ended,

@@ -3,9 +3,9 @@ ghost use mathlib.Core.Path.{_≡_};
 ghost use Rattle.ledger.specs.Jobs.{is-open};
 ghost use Rattle.ledger.specs.Models.{back, noted};
 use operations::Action;
+use operations::Operation;
 use operations::operation::OperationDebug;
 use operations::operation::OperationPartialEq;
-use operations::Operation;
 
 // A job is open if it is working or waiting. A number that was never given counts as ended.
 #[derive(Clone, Copy, PartialEq, Eq, Debug)]

@@ -38,9 +38,9 @@ sweep-all n f ws h =
 -- one place more makes no difference at the others
 swept-else : (r : ℕ) (f : ℕ → ℕ → ℕ) (k w : ℕ) → (k ≡ r → ⊥) → swept r f k w ≡ swept (r + 1) f k w
 swept-else r f k w s =
-    elim (cases-lt k r)
-    [ inl l ↦ swept-done r f k w l ∙ sym (swept-done (r + 1) f k w (omega arith))
-    | inr l ↦ swept-past r f k w l ∙ sym (swept-past (r + 1) f k w (omega arith))
+    elim (cases-lt k r) [
+      | inl l ↦ swept-done r f k w l ∙ sym (swept-done (r + 1) f k w (omega arith))
+      | inr l ↦ swept-past r f k w l ∙ sym (swept-past (r + 1) f k w (omega arith))
     ]
 
 -- a place that does not change need not be written
@@ -48,19 +48,19 @@ pub sweep-skip : (r : ℕ) (f : ℕ → ℕ → ℕ) (ws : List ℕ) → ((w : �
 sweep-skip r f ws h =
     each-same 0 (swept r f) (swept (r + 1) f) ws
     (λ k w.
-        elim (cases-eq k r)
-        [ inl s ↦
-            swept-past r f k w (omega arith)
-            ∙ sym (h w)
-            ∙ ap (λ (x : ℕ). f x w) (sym s)
-            ∙ sym (swept-done (r + 1) f k w (omega arith))
-        | inr s ↦ swept-else r f k w s
-        ])
+    elim (cases-eq k r) [
+      | inl s ↦
+          swept-past r f k w (omega arith)
+          ∙ sym (h w)
+          ∙ ap (λ (x : ℕ). f x w) (sym s)
+          ∙ sym (swept-done (r + 1) f k w (omega arith))
+      | inr s ↦ swept-else r f k w s
+    ])
 
 -- a place written is one place more
 pub sweep-more :
-  (r : ℕ) (f : ℕ → ℕ → ℕ) (ws : List ℕ)
-  → set (each-from 0 (swept r f) ws) r (f r (getD (each-from 0 (swept r f) ws) r 0)) ≡ each-from 0 (swept (r + 1) f) ws
+    (r : ℕ) (f : ℕ → ℕ → ℕ) (ws : List ℕ)
+    → set (each-from 0 (swept r f) ws) r (f r (getD (each-from 0 (swept r f) ws) r 0)) ≡ each-from 0 (swept (r + 1) f) ws
 sweep-more r f ws =
     let now = each-from 0 (swept r f) ws in
     let next = each-from 0 (swept (r + 1) f) ws in
@@ -69,21 +69,21 @@ sweep-more r f ws =
     let len-next = length-each 0 (swept (r + 1) f) ws in
     ext-getD 0 (set now r new) next (length-set now r new ∙ len ∙ sym len-next)
     (λ k h.
-        let l : k < length ws = omega (arith, length-set now r new) in
-        elim (cases-eq k r)
-        [ inl s ↦
-            let old : getD now r 0 ≡ getD ws r 0 =
-              getD-each (swept r f) ws r (omega arith) ∙ swept-past r f r (getD ws r 0) (omega arith)
-            in
-            ap (λ (x : ℕ). getD (set now r new) x 0) s
-            ∙ getD-set-same now r new 0 (omega arith)
-            ∙ ap (f r) old
-            ∙ sym (swept-done (r + 1) f r (getD ws r 0) (omega arith))
-            ∙ sym (getD-each (swept (r + 1) f) ws r (omega arith))
-            ∙ ap (λ (x : ℕ). getD next x 0) (sym s)
-        | inr s ↦
-            getD-set-other now r k new 0 s
-            ∙ getD-each (swept r f) ws k l
-            ∙ swept-else r f k (getD ws k 0) s
-            ∙ sym (getD-each (swept (r + 1) f) ws k l)
-        ])
+    let l : k < length ws = omega (arith, length-set now r new) in
+    elim (cases-eq k r) [
+      | inl s ↦
+          let old : getD now r 0 ≡ getD ws r 0 =
+          getD-each (swept r f) ws r (omega arith) ∙ swept-past r f r (getD ws r 0) (omega arith)
+          in
+          ap (λ (x : ℕ). getD (set now r new) x 0) s
+          ∙ getD-set-same now r new 0 (omega arith)
+          ∙ ap (f r) old
+          ∙ sym (swept-done (r + 1) f r (getD ws r 0) (omega arith))
+          ∙ sym (getD-each (swept (r + 1) f) ws r (omega arith))
+          ∙ ap (λ (x : ℕ). getD next x 0) (sym s)
+      | inr s ↦
+          getD-set-other now r k new 0 s
+          ∙ getD-each (swept r f) ws k l
+          ∙ swept-else r f k (getD ws k 0) s
+          ∙ sym (getD-each (swept (r + 1) f) ws k l)
+    ])

@@ -8,8 +8,10 @@ use Rattle.engine.proofs.held.Held.put.Needs as need
 
 pub ghost-self : need.ghost-self
 ghost-self c =
-    let t = c .args .self .now in
-    ( length-set (t .rows) (c .args .slot) (set (getD (t .rows) (c .args .slot) []) (c .args .granule) (c .args .value)) ∙ t .full
-    , ( long-put (t .rows) (c .args .slot) (c .args .granule) (c .args .value) (omega (arith, t .full, c .pre .slot)) (t .long)
-    , tt
-    ))
+    let t = c .args .self .now in (
+      length-set (t .rows) (c .args .slot) (set (getD (t .rows) (c .args .slot) []) (c .args .granule) (c .args .value)) ∙ t .full,
+      (
+        long-put (t .rows) (c .args .slot) (c .args .granule) (c .args .value) (omega (arith, t .full, c .pre .slot)) (t .long),
+        tt,
+      ),
+    )

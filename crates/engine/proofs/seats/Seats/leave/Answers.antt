@@ -9,10 +9,16 @@ use Rattle.engine.proofs.seats.Seats.leave.Needs as need
 pub ghost-self : need.ghost-self
 ghost-self c =
     let t = c .args .self .now in
-    let i = c .args .slot in
-    ( (length-set (t .numbers) i 0 ∙ t .full .0, t .full .1)
-    , ( distinct-free (t .numbers) i (t .apart)
-    , ( given-set (t .opened) (t .numbers) i 0 (omega arith) (t .known)
-    , ( busy-leave (t .numbers) (t .states) i (t .seated)
-    , tt
-    ))))
+    let i = c .args .slot in (
+      (length-set (t .numbers) i 0 ∙ t .full .0, t .full .1),
+      (
+        distinct-free (t .numbers) i (t .apart),
+        (
+          given-set (t .opened) (t .numbers) i 0 (omega arith) (t .known),
+          (
+            busy-leave (t .numbers) (t .states) i (t .seated),
+            tt,
+          ),
+        ),
+      ),
+    )

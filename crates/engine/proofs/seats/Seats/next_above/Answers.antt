@@ -21,8 +21,8 @@ loop-s-again c =
 pub returns : need.returns
 returns c =
     let t = c .args .self .now in
-    record
-    { value =
-        c .loop-s .inv
-        ∙ ap (folded (nearer (c .args .number)) 0) (take-all (c .loop-s .s) (t .numbers) (omega (arith, t .full .0)))
+    record {
+      value =
+          c .loop-s .inv
+          ∙ ap (folded (nearer (c .args .number)) 0) (take-all (c .loop-s .s) (t .numbers) (omega (arith, t .full .0)));
     }

@@ -9,10 +9,16 @@ use Rattle.engine.proofs.seats.Seats.turn.Needs as need
 pub ghost-self : need.ghost-self
 ghost-self c =
     let t = c .args .self .now in
-    let i = c .args .slot in
-    ( (t .full .0, length-set (t .states) i (c .args .state) ∙ t .full .1)
-    , ( t .apart
-    , ( t .known
-    , ( busy-turn (t .numbers) (t .states) i (c .args .state) (c .pre .lives) (t .seated)
-    , tt
-    ))))
+    let i = c .args .slot in (
+      (t .full .0, length-set (t .states) i (c .args .state) ∙ t .full .1),
+      (
+        t .apart,
+        (
+          t .known,
+          (
+            busy-turn (t .numbers) (t .states) i (c .args .state) (c .pre .lives) (t .seated),
+            tt,
+          ),
+        ),
+      ),
+    )
