@@ -6,11 +6,13 @@ use mathlib.Core.List.{List, [], _∷_}
 use Prim.Native.Nat.{ℕ, zero, suc, _<_, _≤_}
 use native.Mathlib.Omega.{arith}
 use lib.Dec.{eqb}
-use lib.ListN.{length, getD, set}
-use Rattle.std.proofs.shelf.Lists.{getD-set-same, getD-set-other, length-set}
-use Rattle.std.proofs.shelf.Tests.{cases-eq, eq-eqb, ne-eqb}
-use Rattle.ledger.specs.Jobs.{put}
+use lib.ListN.{length, getD, set, replicate}
+use Rattle.std.proofs.shelf.Lists.{getD-set-same, getD-set-other, getD-replicate, getD-past, length-replicate}
+use Rattle.std.proofs.shelf.Tests.{cases-eq, cases-lt, eq-eqb, ne-eqb}
+use Rattle.ledger.specs.Jobs.{put, where-so}
 use Rattle.ledger.proofs.Piles.{put-at, put-other}
+use Rattle.ledger.proofs.Wounds.{where-true, where-false}
+use Rattle.engine.specs.Grids.{cell}
 use Rattle.engine.specs.Seats.{place, slot}
 use Rattle.engine.proofs.Places.{place-at}
 
@@ -52,3 +54,36 @@ view-set rows d numbers k v e l j =
           getD-set-other rows (slot numbers k) (slot numbers j) v d (λ (z : slot numbers j ≡ slot numbers k). s (slot-own numbers j k z l))
           ∙ sym (put-other k v (λ i. getD rows (slot numbers i) d) j s)
     ]
+
+-- every cell of an empty row is empty
+empty : {A : Type 0} (n : ℕ) (d : A) (x : ℕ) → getD (replicate n d) x d ≡ d
+empty n d x =
+    elim (cases-lt x n)
+    [ inl h ↦ getD-replicate n x d d h
+    | inr h ↦ getD-past (replicate n d) x d (rw length-replicate h)
+    ]
+
+-- An empty row written at the slot of job k leaves job k empty, and nobody else changed.
+pub view-wiped :
+  {A : Type 0} (rows : List (List A)) (d : A) (numbers : List ℕ) (k : ℕ) → length rows ≡ length numbers → slot numbers k < length numbers
+  → (j x : ℕ)
+  → cell d (set rows (slot numbers k) (replicate 256 d)) (slot numbers j) x
+    ≡ where-so {A = ℕ → A} (λ i. eqb i k) (λ _. d) (λ i y. cell d rows (slot numbers i) y) j x
+view-wiped {A} rows d numbers k e l j x =
+    ap (λ (row : List A). getD row x d) (view-set rows [] numbers k (replicate 256 d) e l j) ∙ at-row
+  where
+    own : ℕ → List A
+    own i = getD rows (slot numbers i) []
+    has : ℕ → ℕ → A
+    has i y = cell d rows (slot numbers i) y
+    at-row : getD (put k (replicate 256 d) own j) x d ≡ where-so {A = ℕ → A} (λ i. eqb i k) (λ _. d) has j x
+    at-row =
+        elim (cases-eq j k)
+        [ inl s ↦
+            ap (λ (row : List A). getD row x d) (put-at k (replicate 256 d) own j s)
+            ∙ empty 256 d x
+            ∙ sym (ap (λ (f : ℕ → A). f x) (where-true (λ i. eqb i k) (λ _. d) has j (eq-eqb j k s)))
+        | inr s ↦
+            ap (λ (row : List A). getD row x d) (put-other k (replicate 256 d) own j s)
+            ∙ sym (ap (λ (f : ℕ → A). f x) (where-false (λ i. eqb i k) (λ _. d) has j (ne-eqb j k s)))
+        ]

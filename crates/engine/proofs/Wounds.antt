@@ -1,21 +1,27 @@
 -- Jobs wounded one after the other, the oldest first, are wounded as the model has it.
-use mathlib.Core.Path.{_≡_, refl, sym, _∙_, ap, subst, fun-ext}
+use mathlib.Core.Path.{_≡_, refl, sym, _∙_, ap, ap₂, subst, fun-ext}
 use mathlib.Core.Logic.{inl, inr}
 use mathlib.Core.Bool.{Bool, true, false, _&&_}
 use mathlib.Core.List.{List}
 use Prim.Native.Nat.{ℕ, zero, suc, _<_, _≤_}
 use native.Mathlib.Omega.{arith}
 use lib.Dec.{eqb, ltb}
+use lib.ListN.{length, getD, set, replicate}
 use Rattle.std.proofs.shelf.Tests.{cases-eq, cases-lt, cases-bool, and-from, and-left, and-right, lt-ltb, le-ltb, eq-eqb, ne-eqb}
 use Rattle.ledger.specs.declared.job.Note.{Note}
 use Rattle.ledger.specs.declared.job.Note.the-variants.{Nothing}
 use Rattle.ledger.specs.declared.job.Status.{Status}
-use Rattle.ledger.specs.declared.job.Status.the-variants.{Wounded}
+use Rattle.ledger.specs.declared.job.Status.the-variants.{Wounded, Ended}
 use Rattle.ledger.specs.Jobs.{Jobs, where-so, wound-jobs}
 use Rattle.ledger.specs.Walks.{Hands}
 use Rattle.ledger.specs.Models.{Model, model-hands, taken-back, all-taken-back}
 use Rattle.ledger.proofs.Wounds.{where-true, where-false, where-cong}
+use Rattle.engine.specs.declared.core.Core.{Core}
+use Rattle.engine.specs.Grids.{cell}
+use Rattle.engine.specs.Seats.{slot}
+use Rattle.engine.specs.Views.{model}
 use Rattle.engine.specs.Wounds.{wounded-one, upto, wounded-upto}
+use Rattle.engine.proofs.Views.{view-set, view-wiped}
 
 -- models that agree in all parts
 pub model-eq :
@@ -30,6 +36,30 @@ model-eq m n o s d w t =
   where
     mk : ℕ → (ℕ → Status) → (ℕ → ℕ → ℕ) → List ℕ → (ℕ → ℕ → Note) → Model
     mk a b c d e = record { jobs = record { opened = a; status = b; mode = c }; words = d; notes = e }
+
+-- The job in a slot wounded is that job wounded in the model.
+pub wound-view :
+  {S : Type 0} (words : S → List ℕ) (c c′ : Core S) (k : ℕ) → slot (c .seats .numbers) k < 16
+  → words (c′ .shelf) ≡ taken-back (cell Nothing (c .noted .rows) (slot (c .seats .numbers) k)) (words (c .shelf))
+  → c′ .seats .numbers ≡ c .seats .numbers → c′ .seats .states ≡ set (c .seats .states) (slot (c .seats .numbers) k) Wounded
+  → c′ .seats .opened ≡ c .seats .opened → c′ .held .rows ≡ set (c .held .rows) (slot (c .seats .numbers) k) (replicate 256 0)
+  → c′ .noted .rows ≡ set (c .noted .rows) (slot (c .seats .numbers) k) (replicate 256 Nothing)
+  → model words c′ ≡ wounded-one k (model words c)
+wound-view words c c′ k l w n s o h t =
+    let numbers = c .seats .numbers in
+    let full = c .seats .full .0 in
+    let within : slot numbers k < length numbers = omega (arith, full) in
+    model-eq (model words c′) (wounded-one k (model words c)) o
+    (λ j.
+    ap₂ (λ (ns : List ℕ) (ss : List Status). getD ss (slot ns j) Ended) n s
+    ∙ view-set (c .seats .states) Ended numbers k Wounded (c .seats .full .1 ∙ sym full) within j)
+    (λ j x.
+    ap₂ (λ (ns : List ℕ) (rows : List (List ℕ)). cell 0 rows (slot ns j) x) n h
+    ∙ view-wiped (c .held .rows) 0 numbers k (c .held .full ∙ sym full) within j x)
+    w
+    (λ j r.
+    ap₂ (λ (ns : List ℕ) (rows : List (List Note)). cell Nothing rows (slot ns j) r) n t
+    ∙ view-wiped (c .noted .rows) Nothing numbers k (c .noted .full ∙ sym full) within j r)
 
 module _ (p : ℕ → Bool) where
   upto-here : (n : ℕ) → upto p n n ≡ false

@@ -6,6 +6,9 @@ ghost use Rattle.ledger.specs.declared.job.Note.the-variants.{Nothing};
 ghost use Rattle.ledger.specs.declared.job.Status.the-variants.{Wounded};
 ghost use Rattle.ledger.specs.Models.{back, taken-back};
 ghost use Rattle.engine.specs.Grids.{cell};
+ghost use Rattle.engine.specs.Seats.{slot};
+ghost use Rattle.engine.specs.Views.{model};
+ghost use Rattle.engine.specs.Wounds.{wounded-one};
 use super::Core;
 use ledger::Note;
 use ledger::Status;
@@ -54,5 +57,15 @@ impl<S: Shelf> Core<S> {
         self.held.wipe(slot);
         self.noted.wipe(slot);
         self.seats.turn(slot, Status::Wounded);
+    }
+
+    // A job that sits in a slot is wounded, as the model has it.
+    fn wound_job(&mut self, job: u32)
+        requires { ⌜ slot (now self .seats .numbers) job < 16 ⌝ }
+        ensures model { λ _. ⌜ model (S·Shelf .words) (now (self .exit)) ≡ wounded-one job (model (S·Shelf .words) (now (self .entry))) ⌝ }
+        ensures numbers { λ _. ⌜ now (self .exit) .seats .numbers ≡ now (self .entry) .seats .numbers ⌝ }
+    {
+        let slot = self.seats.slot_of(job);
+        self.wound(slot);
     }
 }
