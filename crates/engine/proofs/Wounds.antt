@@ -20,7 +20,7 @@ use Rattle.engine.specs.declared.core.Core.{Core}
 use Rattle.engine.specs.Grids.{cell}
 use Rattle.engine.specs.Seats.{slot}
 use Rattle.engine.specs.Views.{model}
-use Rattle.engine.specs.Wounds.{wounded-one, upto, wounded-upto}
+use Rattle.engine.specs.Wounds.{wounded-one, wounded-if}
 use Rattle.engine.proofs.Views.{view-set, view-wiped}
 
 -- models that agree in all parts
@@ -60,6 +60,18 @@ wound-view words c c′ k l w n s o h t =
     (λ j r.
     ap₂ (λ (ns : List ℕ) (rows : List (List Note)). cell Nothing rows (slot ns j) r) n t
     ∙ view-wiped (c .noted .rows) Nothing numbers k (c .noted .full ∙ sym full) within j r)
+
+-- those below n that the test picks
+abbrev upto : (ℕ → Bool) → ℕ → ℕ → Bool
+upto p n k = p k && ltb k n
+
+abbrev pub wounded-upto : (ℕ → Bool) → ℕ → Model → Model
+wounded-upto p n m =
+    record {
+      jobs = wound-jobs (upto p n) (m .jobs);
+      words = all-taken-back p (m .notes) n (m .words);
+      notes = where-so (upto p n) (λ _. Nothing) (m .notes);
+    }
 
 module _ (p : ℕ → Bool) where
   upto-here : (n : ℕ) → upto p n n ≡ false

@@ -3,6 +3,7 @@ use crate::held::Held;
 use crate::noted::Noted;
 use crate::seats::Seats;
 
+pub mod meets;
 pub mod takes;
 
 #[derive(Drop)]

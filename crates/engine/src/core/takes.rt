@@ -60,7 +60,7 @@ impl<S: Shelf> Core<S> {
     }
 
     // A job that sits in a slot is wounded, as the model has it.
-    fn wound_job(&mut self, job: u32)
+    pub(crate) fn wound_job(&mut self, job: u32)
         requires { ⌜ slot (now self .seats .numbers) job < 16 ⌝ }
         ensures model { λ _. ⌜ model (S·Shelf .words) (now (self .exit)) ≡ wounded-one job (model (S·Shelf .words) (now (self .entry))) ⌝ }
         ensures numbers { λ _. ⌜ now (self .exit) .seats .numbers ≡ now (self .entry) .seats .numbers ⌝ }

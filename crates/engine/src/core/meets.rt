@@ -1,0 +1,28 @@
+// Those who are in the way of a job that asks for a lock.
+ghost use mathlib.Core.Path.{_≡_};
+ghost use Prim.Native.Nat.{_<_};
+ghost use Rattle.ledger.specs.Walks.{yields};
+ghost use Rattle.engine.specs.Seats.{slot};
+ghost use Rattle.engine.specs.Views.{model, jobs-of};
+ghost use Rattle.engine.specs.Wounds.{wounded-if};
+use super::Core;
+use crate::judge::judge;
+use ledger::Judgement;
+use modes::system::ModeSystem;
+use shelf::Shelf;
+
+impl<S: Shelf> Core<S> {
+    // A job is met by one that asks for a target on a granule, and is wounded if it must give way.
+    fn meet<M: ModeSystem>(&mut self, system: &M, asker: u32, granule: usize, target: u8, job: u32)
+        requires seated { ⌜ slot (now self .seats .numbers) job < 16 ⌝ }
+        requires granule { ⌜ granule < 256 ⌝ }
+        ensures model { λ _. ⌜ model (S·Shelf .words) (now (self .exit)) ≡ wounded-if (yields (M·ModeSystem .meaning) (jobs-of (now (self .entry) .seats) (now (self .entry) .held)) asker granule target job) job (model (S·Shelf .words) (now (self .entry))) ⌝ }
+        ensures numbers { λ _. ⌜ now (self .exit) .seats .numbers ≡ now (self .entry) .seats .numbers ⌝ }
+    {
+        let slot = self.seats.slot_of(job);
+        let mode = self.held.get(slot, granule);
+        if let Judgement::GivesWay = judge(system, asker, target, job, mode) {
+            self.wound_job(job);
+        }
+    }
+}
