@@ -3,3 +3,4 @@ pub mod Grids
 pub mod Words
 pub mod Views
 pub mod Wounds
+pub mod Meetings

@@ -61,7 +61,7 @@ given-set n (x ∷ xs) (suc i) v h e =
     and-from (leb x n) (all-given n (set xs i v)) (p .0) (given-set n xs i v h (p .1))
 
 -- a number that was not given is not among those that were
-new-among : (n : ℕ) (xs : List ℕ) (v : ℕ) → n < v → all-given n xs ≡ true → among v xs ≡ false
+pub new-among : (n : ℕ) (xs : List ℕ) (v : ℕ) → n < v → all-given n xs ≡ true → among v xs ≡ false
 new-among n [] v h e = refl
 new-among n (x ∷ xs) v h e =
     let p = and-parts (leb x n) (all-given n xs) e in

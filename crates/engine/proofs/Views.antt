@@ -9,12 +9,13 @@ use lib.Dec.{eqb}
 use lib.ListN.{length, getD, set, replicate}
 use Rattle.std.proofs.shelf.Lists.{getD-set-same, getD-set-other, getD-replicate, getD-past, length-replicate}
 use Rattle.std.proofs.shelf.Tests.{cases-eq, cases-lt, eq-eqb, ne-eqb}
+use Rattle.granules.specs.Paths.{among}
 use Rattle.ledger.specs.Jobs.{put, where-so}
 use Rattle.ledger.proofs.Piles.{put-at, put-other}
 use Rattle.ledger.proofs.Wounds.{where-true, where-false}
 use Rattle.engine.specs.Grids.{cell}
 use Rattle.engine.specs.Seats.{place, slot}
-use Rattle.engine.proofs.Places.{place-at}
+use Rattle.engine.proofs.Places.{place-at, place-among, among-place}
 
 slot-none : (numbers : List ℕ) (k : ℕ) → k ≡ 0 → slot numbers k ≡ length numbers
 slot-none numbers k e = let t = eq-eqb k 0 e in rw (t, slot)
@@ -32,6 +33,15 @@ slot-number numbers k l =
         e,
       )
     ]
+
+-- who has a slot of the table stands in it, and the other way round
+pub slot-among : (numbers : List ℕ) (k : ℕ) → slot numbers k < length numbers → among k numbers ≡ true
+slot-among numbers k l =
+    let some = slot-number numbers k l .1 in
+    place-among numbers k (omega (arith, slot-some numbers k some))
+
+pub among-slot : (numbers : List ℕ) (k : ℕ) → (k ≡ 0 → ⊥) → among k numbers ≡ true → slot numbers k < length numbers
+among-slot numbers k some e = omega (arith, slot-some numbers k some, among-place numbers k e)
 
 -- two jobs do not share a slot
 pub slot-own : (numbers : List ℕ) (j k : ℕ) → slot numbers j ≡ slot numbers k → slot numbers k < length numbers → j ≡ k

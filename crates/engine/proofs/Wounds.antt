@@ -62,7 +62,7 @@ wound-view words c c′ k l w n s o h t =
     ∙ view-wiped (c .noted .rows) Nothing numbers k (c .noted .full ∙ sym full) within j r)
 
 -- those below n that the test picks
-abbrev upto : (ℕ → Bool) → ℕ → ℕ → Bool
+abbrev pub upto : (ℕ → Bool) → ℕ → ℕ → Bool
 upto p n k = p k && ltb k n
 
 abbrev pub wounded-upto : (ℕ → Bool) → ℕ → Model → Model
@@ -74,7 +74,7 @@ wounded-upto p n m =
     }
 
 module _ (p : ℕ → Bool) where
-  upto-here : (n : ℕ) → upto p n n ≡ false
+  pub upto-here : (n : ℕ) → upto p n n ≡ false
   upto-here n = and-right (p n) (ltb n n) (le-ltb n n (omega arith))
 
   -- where the test picks nobody one may go on

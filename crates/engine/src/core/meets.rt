@@ -1,7 +1,8 @@
 // Those who are in the way of a job that asks for a lock.
 ghost use mathlib.Core.Path.{_≡_};
 ghost use Prim.Native.Nat.{_<_};
-ghost use Rattle.ledger.specs.Walks.{yields};
+ghost use Rattle.ledger.specs.Models.{model-hands};
+ghost use Rattle.ledger.specs.Walks.{yields, Hands};
 ghost use Rattle.engine.specs.Seats.{slot};
 ghost use Rattle.engine.specs.Views.{model, jobs-of};
 ghost use Rattle.engine.specs.Wounds.{wounded-if};
@@ -23,6 +24,19 @@ impl<S: Shelf> Core<S> {
         let mode = self.held.get(slot, granule);
         if let Judgement::GivesWay = judge(system, asker, target, job, mode) {
             self.wound_job(job);
+        }
+    }
+
+    // Every younger job that is in the way is wounded, the oldest of them first.
+    fn wound_younger<M: ModeSystem>(&mut self, system: &M, asker: u32, granule: usize, target: u8)
+        requires { ⌜ granule < 256 ⌝ }
+        ensures model { λ _. ⌜ model (S·Shelf .words) (now (self .exit)) ≡ model-hands .wound (yields (M·ModeSystem .meaning) (jobs-of (now (self .entry) .seats) (now (self .entry) .held)) asker granule target) (model (S·Shelf .words) (now (self .entry))) ⌝ }
+        ensures numbers { λ _. ⌜ now (self .exit) .seats .numbers ≡ now (self .entry) .seats .numbers ⌝ }
+    {
+        let mut job = self.seats.next_above(asker);
+        while job != 0 {
+            self.meet(system, asker, granule, target, job);
+            job = self.seats.next_above(job);
         }
     }
 }

@@ -1,0 +1,61 @@
+use mathlib.Core.Path.{_≡_, sym, _∙_, ap, subst}
+use native.Mathlib.Omega.{arith}
+use Prim.Native.Nat.{ℕ, suc, _-_, _<_}
+use Rattle.engine.specs.Seats.{next-above}
+use Rattle.engine.proofs.Meetings.{Reached, far, begin, has-slot, nearer-end, again, end}
+use Rattle.engine.proofs.core.Core.wound_younger.Needs as need
+
+pub loop-job-holds : need.loop-job-holds
+loop-job-holds g c =
+    let start = c .args .self .now in
+    subst (λ (job : ℕ). Reached (g .M·ModeSystem .meaning) (g .M·ModeSystem·met .lawful) (g .S·Shelf .words) start (c .args .asker) (c .args .granule) (c .args .target) start job)
+    (sym (c .next-above-job .ensures .value))
+    (begin (g .M·ModeSystem .meaning) (g .M·ModeSystem·met .lawful) (g .S·Shelf .words) start (c .args .asker) (c .args .granule) (c .args .target))
+
+pub meet-requires : need.meet-requires
+meet-requires g c κs =
+    record {
+      seated =
+          has-slot (g .M·ModeSystem .meaning) (g .M·ModeSystem·met .lawful) (g .S·Shelf .words) (c .args .self .now) (c .args .asker) (c .args .granule) (c .args .target)
+          (c .loop-job .self) (c .loop-job .job) (c .loop-job-test .taken) (c .loop-job .inv);
+      granule = c .pre;
+    }
+
+pub loop-job-less : need.loop-job-less
+loop-job-less g c =
+    let start = c .args .self .now in
+    let job = c .loop-job .job in
+    let near =
+      nearer-end (g .M·ModeSystem .meaning) (g .M·ModeSystem·met .lawful) (g .S·Shelf .words) start (c .args .asker) (c .args .granule) (c .args .target)
+      (c .loop-job .self) job (c .loop-job-test .taken) (c .loop-job .inv)
+    in
+    let next : c .next-above-job-in-loop-job .result ≡ next-above job (start .seats .numbers) =
+      c .next-above-job-in-loop-job .ensures .value
+      ∙ ap (next-above job) (c .meet .ensures .numbers ∙ c .loop-job .inv .numbers)
+    in
+    let less : suc (start .seats .opened) - far (start .seats .opened) (next-above job (start .seats .numbers)) < suc (start .seats .opened) - far (start .seats .opened) job =
+      omega (arith, near .0, near .1, near .2)
+    in
+    subst (λ (j : ℕ). suc (start .seats .opened) - far (start .seats .opened) j < suc (start .seats .opened) - far (start .seats .opened) job) (sym next) less
+
+pub loop-job-again : need.loop-job-again
+loop-job-again g c =
+    let start = c .args .self .now in
+    let job = c .loop-job .job in
+    let next : c .next-above-job-in-loop-job .result ≡ next-above job (start .seats .numbers) =
+      c .next-above-job-in-loop-job .ensures .value
+      ∙ ap (next-above job) (c .meet .ensures .numbers ∙ c .loop-job .inv .numbers)
+    in
+    subst (λ (j : ℕ). Reached (g .M·ModeSystem .meaning) (g .M·ModeSystem·met .lawful) (g .S·Shelf .words) start (c .args .asker) (c .args .granule) (c .args .target) (c .meet .last .self) j)
+    (sym next)
+    (again (g .M·ModeSystem .meaning) (g .M·ModeSystem·met .lawful) (g .S·Shelf .words) start (c .args .asker) (c .args .granule) (c .args .target)
+    (c .loop-job .self) (c .meet .last .self) job (c .loop-job-test .taken) (c .loop-job .inv) (c .meet .ensures .numbers) (c .meet .ensures .model))
+
+pub returns : need.returns
+returns g c =
+    record {
+      model =
+          end (g .M·ModeSystem .meaning) (g .M·ModeSystem·met .lawful) (g .S·Shelf .words) (c .args .self .now) (c .args .asker) (c .args .granule) (c .args .target)
+          (c .loop-job .self) (c .loop-job .job) (c .loop-job-test .left) (c .loop-job .inv);
+      numbers = c .loop-job .inv .numbers;
+    }
