@@ -1,28 +1,31 @@
 -- Who is in the way of a job that asks for a lock, and how far the wounding of the younger ones has come.
 use mathlib.Core.Path.{_≡_, refl, sym, _∙_, ap}
 use mathlib.Core.Logic.{inl, inr}
-use mathlib.Core.Bool.{Bool, true, false, cond}
+use mathlib.Core.Bool.{Bool, true, false, not, _&&_, cond}
 use mathlib.Core.List.{List, []}
 use Prim.Native.Nat.{ℕ, suc, _<_, _≤_}
 use native.Mathlib.Omega.{arith}
 use lib.Dec.{eqb}
 use lib.ListN.{length, getD}
 use Rattle.std.proofs.shelf.Lists.{getD-past}
-use Rattle.std.proofs.shelf.Tests.{cases-eq, cases-lt, cases-bool, both-ways, cond-true, cond-false, eq-eqb, ne-eqb}
+use Rattle.std.proofs.shelf.Tests.{cases-eq, cases-lt, cases-bool, both-ways, and-parts, and-from, not-true, not-from-false, cond-true, cond-false, eq-eqb, ne-eqb}
 use Rattle.modes.specs.Systems.{System, Lawful}
+use Rattle.granules.specs.Below.{some-below}
 use Rattle.granules.specs.Paths.{among}
+use Rattle.granules.proofs.Below.{some-at, some-from}
 use Rattle.ledger.specs.Jobs.{Jobs}
-use Rattle.ledger.specs.Walks.{Hands, judge, must-give-way, yields}
+use Rattle.ledger.specs.Walks.{Hands, judge, must-give-way, must-wait, yields, blocks}
 use Rattle.ledger.specs.Models.{Model, model-hands}
-use Rattle.ledger.proofs.Kept.{yields-young}
+use Rattle.ledger.proofs.Kept.{yields-young, blocks-old}
 use Rattle.ledger.proofs.Wounds.{where-false}
 use Rattle.engine.specs.declared.core.Core.{Core}
 use Rattle.engine.specs.Grids.{cell}
+use Rattle.engine.specs.Meetings.{holds-up-at}
 use Rattle.engine.specs.Seats.{slot, next-above}
 use Rattle.engine.specs.Views.{model, jobs-of}
 use Rattle.engine.specs.Wounds.{wounded-one, wounded-if}
 use Rattle.engine.proofs.Places.{Nearest, next-nearest, new-among}
-use Rattle.engine.proofs.Views.{slot-among, among-slot}
+use Rattle.engine.proofs.Views.{slot-number, slot-among, among-slot, slot-own-number}
 use Rattle.engine.proofs.Wounds.{upto, upto-here, wounded-upto, skip, start, one, all}
 
 -- where a search stands that has come to a job: at that job, or past all of them
@@ -35,34 +38,27 @@ far-end opened job e = cond-true (eqb job 0) (suc opened) job (eq-eqb job 0 e)
 far-at : (opened job : ℕ) → (job ≡ 0 → ⊥) → far opened job ≡ job
 far-at opened job e = cond-false (eqb job 0) (suc opened) job (ne-eqb job 0 e)
 
--- who sits nowhere holds nothing
-pub absent : {S : Type 0} (c : Core S) (k x : ℕ) → among k (c .seats .numbers) ≡ false → jobs-of (c .seats) (c .held) .mode k x ≡ 0
-absent c k x e =
-    let numbers = c .seats .numbers in
-    elim (cases-lt (slot numbers k) (length numbers)) [
-      | inl l ↦ absurd (both-ways (among k numbers) e (slot-among numbers k l))
-      | inr l ↦
-          ap (λ (row : List ℕ). getD row x 0)
-          (getD-past (c .held .rows) (slot numbers k) [] (omega (arith, l, c .seats .full .0, c .held .full)))
-    ]
-
 module _ (s : System) (law : Lawful s) {S : Type 0} (words : S → List ℕ) (c : Core S) (a x t : ℕ) where
   -- whether a job gives way
   abbrev pub in-way : ℕ → Bool
   in-way k = yields s (jobs-of (c .seats) (c .held)) a x t k
 
+  -- who does not stand with the target sits somewhere, since others hold nothing
+  sits : (k : ℕ) → s .stands (jobs-of (c .seats) (c .held) .mode k x) t ≡ false → slot (c .seats .numbers) k < length (c .seats .numbers)
+  sits k e =
+      let numbers = c .seats .numbers in
+      elim (cases-lt (slot numbers k) (length numbers)) [
+        | inl l ↦ l
+        | inr l ↦
+            let empty = getD-past (c .held .rows) (slot numbers k) [] (omega (arith, l, c .seats .full .0, c .held .full)) in
+            absurd (both-ways (s .stands (jobs-of (c .seats) (c .held) .mode k x) t) e (ap (λ (row : List ℕ). s .stands (getD row x 0) t) empty ∙ law .stands-none t))
+      ]
+
   -- who gives way is younger and sits somewhere
   in-way-seated : (k : ℕ) → in-way k ≡ true → (a < k) × (among k (c .seats .numbers) ≡ true)
   in-way-seated k e =
-      let js = jobs-of (c .seats) (c .held) in
-      let young = yields-young s law js a x t k e in
-      elim (cases-bool (among k (c .seats .numbers))) [
-        | inl m ↦ (young .0, m)
-        | inr m ↦
-            absurd
-            (both-ways (s .stands (js .mode k x) t) (young .1)
-            (ap (λ (h : ℕ). s .stands h t) (absent c k x m) ∙ law .stands-none t))
-      ]
+      let young = yields-young s law (jobs-of (c .seats) (c .held)) a x t k e in
+      (young .0, slot-among (c .seats .numbers) k (sits k (young .1)))
 
   -- who sits somewhere has been opened
   opened-yet : (k : ℕ) → among k (c .seats .numbers) ≡ true → k ≤ c .seats .opened
@@ -168,3 +164,40 @@ module _ (s : System) (law : Lawful s) {S : Type 0} (words : S → List ℕ) (c 
       ∙ ap (λ (n : ℕ). wounded-upto in-way n (model words c)) (far-end (c .seats .opened) job e)
       ∙ all in-way (model words c) (suc (c .seats .opened)) (omega arith)
       (λ k z. omega (arith, opened-yet k (in-way-seated k z .1)))
+
+  -- whether a job holds up, and a slot
+  abbrev older : ℕ → Bool
+  older k = blocks s (jobs-of (c .seats) (c .held)) a x t k
+
+  abbrev at-slot : ℕ → Bool
+  at-slot i = holds-up-at s (c .seats) (c .held) a x t i
+
+  -- a slot that holds up has a job that does
+  pub held-up : (i : ℕ) → i < 16 → at-slot i ≡ true → some-below a older ≡ true
+  held-up i l e =
+      let numbers = c .seats .numbers in
+      let k = getD numbers i 0 in
+      let parts = and-parts (not (eqb k 0)) (must-wait (judge s a t k (cell 0 (c .held .rows) i x))) e in
+      let some : k ≡ 0 → ⊥ = λ z. both-ways (eqb k 0) (not-true (eqb k 0) (parts .0)) (eq-eqb k 0 z) in
+      let own = slot-own-number numbers i (omega (arith, c .seats .full .0)) (c .seats .apart) some in
+      let up : older k ≡ true = ap (λ (j : ℕ). must-wait (judge s a t k (cell 0 (c .held .rows) j x))) own ∙ parts .1 in
+      some-from a older k (blocks-old s law (jobs-of (c .seats) (c .held)) a x t k up .0) up
+
+  -- and the other way round
+  pub not-held-up : some-below 16 at-slot ≡ false → some-below a older ≡ false
+  not-held-up none =
+      elim (cases-bool (some-below a older)) [
+        | inr e ↦ e
+        | inl e ↦
+            let numbers = c .seats .numbers in
+            let found = some-at a older e in
+            let k = found .0 in
+            let old = blocks-old s law (jobs-of (c .seats) (c .held)) a x t k (found .2) in
+            let l = sits k (old .1) in
+            let number = slot-number numbers k l in
+            let here : at-slot (slot numbers k) ≡ true =
+              ap (λ (j : ℕ). not (eqb j 0) && must-wait (judge s a t j (cell 0 (c .held .rows) (slot numbers k) x))) (number .0)
+              ∙ and-from (not (eqb k 0)) (older k) (not-from-false (eqb k 0) (ne-eqb k 0 (number .1))) (found .2)
+            in
+            absurd (both-ways (some-below 16 at-slot) none (some-from 16 at-slot (slot numbers k) (omega (arith, l, c .seats .full .0)) here))
+      ]

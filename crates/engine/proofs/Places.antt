@@ -272,3 +272,26 @@ place-among (x ∷ xs) k l =
       | inl s ↦ or-left (eqb k x) (among k xs) (eq-eqb k x (sym s))
       | inr s ↦ or-right (eqb k x) (among k xs) (place-among xs k (omega (arith, place-later x xs k s)))
     ]
+
+pub among-at : (xs : List ℕ) (i : ℕ) → i < length xs → among (getD xs i 0) xs ≡ true
+among-at [] i l = absurd (omega arith)
+among-at (x ∷ xs) zero l = or-left (eqb x x) (among x xs) (eq-eqb x x refl)
+among-at (x ∷ xs) (suc i) l = or-right (eqb (getD xs i 0) x) (among (getD xs i 0) xs) (among-at xs i (omega arith))
+
+-- a number that is apart from the others has its first place where it stands
+pub place-own : (xs : List ℕ) (i : ℕ) → i < length xs → distinct xs ≡ true → (getD xs i 0 ≡ 0 → ⊥) → place xs (getD xs i 0) ≡ i
+place-own [] i l e d = absurd (omega arith)
+place-own (x ∷ xs) zero l e d = place-here x xs x refl
+place-own (x ∷ xs) (suc i) l e d =
+    let p = and-parts (eqb x 0 || not (among x xs)) (distinct xs) e in
+    elim (cases-eq x (getD xs i 0)) [
+      | inr z ↦ place-later x xs (getD xs i 0) z ∙ ap suc (place-own xs i (omega arith) (p .1) d)
+      | inl z ↦
+          absurd
+          (elim (or-cases (eqb x 0) (not (among x xs)) (p .0)) [
+            | inl o ↦ d (sym z ∙ eqb-true x 0 o)
+            | inr o ↦
+                both-ways (among x xs) (not-true (among x xs) o)
+                (ap (λ (k : ℕ). among k xs) z ∙ among-at xs i (omega arith))
+          ])
+    ]

@@ -14,8 +14,8 @@ use Rattle.ledger.specs.Jobs.{put, where-so}
 use Rattle.ledger.proofs.Piles.{put-at, put-other}
 use Rattle.ledger.proofs.Wounds.{where-true, where-false}
 use Rattle.engine.specs.Grids.{cell}
-use Rattle.engine.specs.Seats.{place, slot}
-use Rattle.engine.proofs.Places.{place-at, place-among, among-place}
+use Rattle.engine.specs.Seats.{place, slot, distinct}
+use Rattle.engine.proofs.Places.{place-at, place-among, among-place, place-own}
 
 slot-none : (numbers : List ℕ) (k : ℕ) → k ≡ 0 → slot numbers k ≡ length numbers
 slot-none numbers k e = let t = eq-eqb k 0 e in rw (t, slot)
@@ -42,6 +42,11 @@ slot-among numbers k l =
 
 pub among-slot : (numbers : List ℕ) (k : ℕ) → (k ≡ 0 → ⊥) → among k numbers ≡ true → slot numbers k < length numbers
 among-slot numbers k some e = omega (arith, slot-some numbers k some, among-place numbers k e)
+
+-- the slot of the number in a slot
+pub slot-own-number :
+  (numbers : List ℕ) (i : ℕ) → i < length numbers → distinct numbers ≡ true → (getD numbers i 0 ≡ 0 → ⊥) → slot numbers (getD numbers i 0) ≡ i
+slot-own-number numbers i l e some = slot-some numbers (getD numbers i 0) some ∙ place-own numbers i l e some
 
 -- two jobs do not share a slot
 pub slot-own : (numbers : List ℕ) (j k : ℕ) → slot numbers j ≡ slot numbers k → slot numbers k < length numbers → j ≡ k

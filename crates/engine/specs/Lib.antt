@@ -3,3 +3,4 @@ pub mod Seats
 pub mod Grids
 pub mod Views
 pub mod Wounds
+pub mod Meetings

@@ -1,8 +1,10 @@
 // Those who are in the way of a job that asks for a lock.
 ghost use mathlib.Core.Path.{_≡_};
 ghost use Prim.Native.Nat.{_<_};
+ghost use Rattle.granules.specs.Below.{some-below};
 ghost use Rattle.ledger.specs.Models.{model-hands};
-ghost use Rattle.ledger.specs.Walks.{yields, Hands};
+ghost use Rattle.ledger.specs.Walks.{blocks, yields, Hands};
+ghost use Rattle.engine.specs.Meetings.{holds-up-at};
 ghost use Rattle.engine.specs.Seats.{slot};
 ghost use Rattle.engine.specs.Views.{model, jobs-of};
 ghost use Rattle.engine.specs.Wounds.{wounded-if};
@@ -38,5 +40,34 @@ impl<S: Shelf> Core<S> {
             self.meet(system, asker, granule, target, job);
             job = self.seats.next_above(job);
         }
+    }
+
+    // Whether the job in a slot holds up one that asks for a target on a granule.
+    fn holds_up_at<M: ModeSystem>(&self, system: &M, asker: u32, granule: usize, target: u8, slot: usize) -> bool
+        requires slot { ⌜ slot < 16 ⌝ }
+        requires granule { ⌜ granule < 256 ⌝ }
+        ensures value { λ r. ⌜ r ≡ holds-up-at (M·ModeSystem .meaning) (now (self .entry) .seats) (now (self .entry) .held) asker granule target slot ⌝ }
+    {
+        let job = self.seats.number(slot);
+        if job == 0 {
+            return false;
+        }
+        match judge(system, asker, target, job, self.held.get(slot, granule)) {
+            Judgement::HoldsUp => true,
+            Judgement::Passes | Judgement::GivesWay => false,
+        }
+    }
+
+    // Whether an older job is in the way.
+    fn is_held_up<M: ModeSystem>(&self, system: &M, asker: u32, granule: usize, target: u8) -> bool
+        requires { ⌜ granule < 256 ⌝ }
+        ensures value { λ r. ⌜ r ≡ some-below asker (blocks (M·ModeSystem .meaning) (jobs-of (now (self .entry) .seats) (now (self .entry) .held)) asker granule target) ⌝ }
+    {
+        for slot in 0..16 {
+            if self.holds_up_at(system, asker, granule, target, slot) {
+                return true;
+            }
+        }
+        false
     }
 }
