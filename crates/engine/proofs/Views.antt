@@ -1,5 +1,5 @@
 -- What a change in one slot is to the job that sits there.
-use mathlib.Core.Path.{_≡_, refl, sym, _∙_, ap, subst}
+use mathlib.Core.Path.{_≡_, refl, sym, _∙_, ap, fun-ext}
 use mathlib.Core.Logic.{inl, inr}
 use mathlib.Core.Bool.{true, false}
 use mathlib.Core.List.{List, [], _∷_}
@@ -12,8 +12,7 @@ use Rattle.std.proofs.shelf.Tests.{cases-eq, cases-lt, eq-eqb, ne-eqb}
 use Rattle.granules.specs.Paths.{among}
 use Rattle.ledger.specs.Jobs.{put, where-so}
 use Rattle.ledger.proofs.Piles.{put-at, put-other}
-use Rattle.ledger.proofs.Wounds.{where-true, where-false}
-use Rattle.engine.specs.Grids.{cell}
+use Rattle.engine.specs.Grids.{cell, with-cell}
 use Rattle.engine.specs.Seats.{place, slot, distinct}
 use Rattle.engine.proofs.Places.{place-at, place-among, among-place, place-own}
 
@@ -78,6 +77,25 @@ empty n d x =
     | inr h ↦ getD-past (replicate n d) x d (rw length-replicate h)
     ]
 
+-- The same, cell by cell.
+view-row :
+  {A : Type 0} (rows : List (List A)) (d : A) (numbers : List ℕ) (k : ℕ) (row : List A) → length rows ≡ length numbers → slot numbers k < length numbers
+  → (j x : ℕ) → cell d (set rows (slot numbers k) row) (slot numbers j) x ≡ put {A = ℕ → A} k (λ y. getD row y d) (λ i y. cell d rows (slot numbers i) y) j x
+view-row {A} rows d numbers k row e l j x = ap (λ (r : List A). getD r x d) (view-set rows [] numbers k row e l j) ∙ at-row
+  where
+    own : ℕ → List A
+    own i = getD rows (slot numbers i) []
+    at-row : getD (put k row own j) x d ≡ put {A = ℕ → A} k (λ y. getD row y d) (λ i y. getD (own i) y d) j x
+    at-row =
+        elim (cases-eq j k)
+        [ inl s ↦
+            ap (λ (r : List A). getD r x d) (put-at k row own j s)
+            ∙ sym (ap (λ (f : ℕ → A). f x) (put-at {A = ℕ → A} k (λ y. getD row y d) (λ i y. getD (own i) y d) j s))
+        | inr s ↦
+            ap (λ (r : List A). getD r x d) (put-other k row own j s)
+            ∙ sym (ap (λ (f : ℕ → A). f x) (put-other {A = ℕ → A} k (λ y. getD row y d) (λ i y. getD (own i) y d) j s))
+        ]
+
 -- An empty row written at the slot of job k leaves job k empty, and nobody else changed.
 pub view-wiped :
   {A : Type 0} (rows : List (List A)) (d : A) (numbers : List ℕ) (k : ℕ) → length rows ≡ length numbers → slot numbers k < length numbers
@@ -85,20 +103,25 @@ pub view-wiped :
   → cell d (set rows (slot numbers k) (replicate 256 d)) (slot numbers j) x
     ≡ where-so {A = ℕ → A} (λ i. eqb i k) (λ _. d) (λ i y. cell d rows (slot numbers i) y) j x
 view-wiped {A} rows d numbers k e l j x =
-    ap (λ (row : List A). getD row x d) (view-set rows [] numbers k (replicate 256 d) e l j) ∙ at-row
+    view-row rows d numbers k (replicate 256 d) e l j x
+    ∙ ap (λ (f : ℕ → A). put {A = ℕ → A} k f (λ i y. cell d rows (slot numbers i) y) j x) (fun-ext (empty 256 d))
+
+-- One cell written there is one cell of job k.
+pub view-cell :
+  {A : Type 0} (rows : List (List A)) (d : A) (numbers : List ℕ) (k x : ℕ) (v : A) → length rows ≡ length numbers → slot numbers k < length numbers
+  → x < length (getD rows (slot numbers k) [])
+  → (j y : ℕ)
+  → cell d (with-cell rows (slot numbers k) x v) (slot numbers j) y
+    ≡ put {A = ℕ → A} k (put x v (cell d rows (slot numbers k))) (λ i z. cell d rows (slot numbers i) z) j y
+view-cell {A} rows d numbers k x v e l h j y =
+    view-row rows d numbers k (set row x v) e l j y
+    ∙ ap (λ (f : ℕ → A). put {A = ℕ → A} k f (λ i z. cell d rows (slot numbers i) z) j y) (fun-ext written)
   where
-    own : ℕ → List A
-    own i = getD rows (slot numbers i) []
-    has : ℕ → ℕ → A
-    has i y = cell d rows (slot numbers i) y
-    at-row : getD (put k (replicate 256 d) own j) x d ≡ where-so {A = ℕ → A} (λ i. eqb i k) (λ _. d) has j x
-    at-row =
-        elim (cases-eq j k)
-        [ inl s ↦
-            ap (λ (row : List A). getD row x d) (put-at k (replicate 256 d) own j s)
-            ∙ empty 256 d x
-            ∙ sym (ap (λ (f : ℕ → A). f x) (where-true (λ i. eqb i k) (λ _. d) has j (eq-eqb j k s)))
-        | inr s ↦
-            ap (λ (row : List A). getD row x d) (put-other k (replicate 256 d) own j s)
-            ∙ sym (ap (λ (f : ℕ → A). f x) (where-false (λ i. eqb i k) (λ _. d) has j (ne-eqb j k s)))
+    row : List A
+    row = getD rows (slot numbers k) []
+    written : (z : ℕ) → getD (set row x v) z d ≡ put x v (λ z. getD row z d) z
+    written z =
+        elim (cases-eq z x)
+        [ inl s ↦ ap (λ (i : ℕ). getD (set row x v) i d) s ∙ getD-set-same row x v d h ∙ sym (put-at x v (λ z. getD row z d) z s)
+        | inr s ↦ getD-set-other row x z v d s ∙ sym (put-other x v (λ z. getD row z d) z s)
         ]

@@ -5,6 +5,7 @@ use crate::seats::Seats;
 
 pub mod meets;
 pub mod takes;
+pub mod walks;
 
 #[derive(Drop)]
 pub struct Core<S> {
