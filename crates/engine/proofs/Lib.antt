@@ -5,3 +5,4 @@ pub mod Views
 pub mod Wounds
 pub mod Meetings
 pub mod Raises
+pub mod Steps

@@ -4,3 +4,4 @@ pub mod Grids
 pub mod Views
 pub mod Wounds
 pub mod Meetings
+pub mod Steps

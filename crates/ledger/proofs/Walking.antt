@@ -36,14 +36,14 @@ module _ {S : Type 0} (h : Hands S) (s : System) (k : Kind) (g a x : ℕ) (xs : 
       → walk h s k g a (x ∷ xs) st ≡ walk h s k g a xs st
   walk-same e f = rw (e, f, walk)
 
-  walk-stops :
+  pub walk-stops :
       has s (h .jobs st .mode a x) (s .full k) ≡ false → eqb (target s k g x (h .jobs st .mode a x)) (h .jobs st .mode a x) ≡ false
       → some-below a (blocks s (h .jobs st) a x (target s k g x (h .jobs st .mode a x))) ≡ true
       → walk h s k g a (x ∷ xs) st
       ≡ record { left = h .wound (yields s (h .jobs st) a x (target s k g x (h .jobs st .mode a x))) st; complete = false }
   walk-stops e f b = rw (e, f, b, walk)
 
-  walk-goes :
+  pub walk-goes :
       has s (h .jobs st .mode a x) (s .full k) ≡ false → eqb (target s k g x (h .jobs st .mode a x)) (h .jobs st .mode a x) ≡ false
       → some-below a (blocks s (h .jobs st) a x (target s k g x (h .jobs st .mode a x))) ≡ false
       → walk h s k g a (x ∷ xs) st
