@@ -2,8 +2,10 @@
 use mathlib.Core.Path.{_≡_, sym, _∙_, ap, ap₂}
 use mathlib.Core.Bool.{true, false}
 use mathlib.Core.List.{List, _∷_}
-use Prim.Native.Nat.{ℕ}
+use Prim.Native.Nat.{ℕ, _+_, _<_}
 use lib.Dec.{eqb}
+use lib.ListN.{length, getD, drop}
+use Rattle.std.proofs.shelf.Lists.{drop-more}
 use Rattle.std.proofs.shelf.Tests.{ne-eqb}
 use Rattle.modes.specs.Systems.{System}
 use Rattle.granules.specs.Below.{some-below}
@@ -52,3 +54,10 @@ module _ (s : System) (m : Model) (w : Walker) (x mode t : ℕ) (has-mode : mode
       (ap (λ (n : ℕ). model-hands .with-jobs (raise (w .job) x n (hurt n .jobs)) (hurt n)) (sym is-target)
       ∙ ap (λ (n : Model). model-hands .with-jobs (raise (w .job) x t (n .jobs)) n) (sym e)
       ∙ sym f)
+
+-- a walk that has come to a place of its path
+pub at-place :
+  (s : System) (w : Walker) (m : Model) (xs : List ℕ) (i x : ℕ) → i < length xs → x ≡ getD xs i 0
+  → walk-on s w (drop i xs) m ≡ walk-on s w (x ∷ drop (i + 1) xs) m
+at-place s w m xs i x l e =
+    ap (λ (ys : List ℕ). walk-on s w ys m) (drop-more xs i 0 l ∙ ap (λ (y : ℕ). y ∷ drop (i + 1) xs) (sym e))

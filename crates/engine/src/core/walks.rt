@@ -1,6 +1,7 @@
 // Locks taken along a path.
 ghost use mathlib.Core.Path.{_≡_};
 ghost use Prim.Native.Nat.{_<_};
+ghost use Rattle.granules.specs.Trees.{steps};
 ghost use Rattle.ledger.specs.Jobs.{raise};
 ghost use Rattle.ledger.specs.Models.{model-hands};
 ghost use Rattle.ledger.specs.Walks.{Hands};
@@ -11,6 +12,7 @@ ghost use Prim.Native.Nat.{ℕ};
 ghost use Rattle.ledger.specs.Walks.{Walked, target};
 ghost use Rattle.engine.specs.Steps.{walk-on, after-step};
 use super::Core;
+use granules::Path;
 use modes::kind::Kind;
 use modes::system::ModeSystem;
 use shelf::Shelf;
@@ -83,5 +85,21 @@ impl<S: Shelf> Core<S> {
         }
         self.raise(walker.job, granule, target);
         Step::On
+    }
+
+    // The locks along a path; whether all were had.
+    pub(crate) fn walk<M: ModeSystem>(&mut self, system: &M, walker: Walker, path: &Path) -> bool
+        requires { ⌜ slot (now self .seats .numbers) (walker .job) < 16 ⌝ }
+        ensures walk { λ r. ⌜ walk-on (M·ModeSystem .meaning) walker (steps (now (path .entry))) (model (S·Shelf .words) (now (self .entry))) ≡ record { left = model (S·Shelf .words) (now (self .exit)); complete = r } ⌝ }
+        ensures numbers { λ _. ⌜ now (self .exit) .seats .numbers ≡ now (self .entry) .seats .numbers ⌝ }
+    {
+        for place in 0..path.len() {
+            match self.step(system, walker, path.at(place)) {
+                Step::Covered => return true,
+                Step::Stopped => return false,
+                Step::On => {}
+            }
+        }
+        true
     }
 }

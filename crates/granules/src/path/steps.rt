@@ -47,6 +47,7 @@ impl Path {
     // The granule at a place, counted from the root; past the end it is the root.
     pub fn at(&self, place: usize) -> usize
         ensures value { λ r. ⌜ r ≡ getD (steps (now (self .entry))) place 0 ⌝ }
+        ensures bound { λ r. ⌜ r < 256 ⌝ }
     {
         if !self.has(place) {
             return 0;
