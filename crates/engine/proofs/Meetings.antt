@@ -129,8 +129,8 @@ module _ (s : System) (law : Lawful s) {S : Type 0} (words : S → List ℕ) (c 
       let m = model words c in
       let here = r .so-far ∙ ap (λ (n : ℕ). wounded-upto in-way n m) (far-at (c .seats .opened) job d) in
       let own : jobs-of (c′ .seats) (c′ .held) .mode job x ≡ m .jobs .mode job x =
-        ap (λ (n : Model). n .jobs .mode job x) here
-        ∙ ap (λ (f : ℕ → ℕ). f x) (where-false (upto in-way job) (λ _. 0) (m .jobs .mode) job (upto-here in-way job))
+      ap (λ (n : Model). n .jobs .mode job x) here
+      ∙ ap (λ (f : ℕ → ℕ). f x) (where-false (upto in-way job) (λ _. 0) (m .jobs .mode) job (upto-here in-way job))
       in
       ap (λ (h : ℕ). wounded-if (must-give-way (judge s a t job h)) job (model words c′)) own
       ∙ ap (wounded-if (in-way job) job) here
@@ -196,8 +196,8 @@ module _ (s : System) (law : Lawful s) {S : Type 0} (words : S → List ℕ) (c 
             let l = sits k (old .1) in
             let number = slot-number numbers k l in
             let here : at-slot (slot numbers k) ≡ true =
-              ap (λ (j : ℕ). not (eqb j 0) && must-wait (judge s a t j (cell 0 (c .held .rows) (slot numbers k) x))) (number .0)
-              ∙ and-from (not (eqb k 0)) (older k) (not-from-false (eqb k 0) (ne-eqb k 0 (number .1))) (found .2)
+            ap (λ (j : ℕ). not (eqb j 0) && must-wait (judge s a t j (cell 0 (c .held .rows) (slot numbers k) x))) (number .0)
+            ∙ and-from (not (eqb k 0)) (older k) (not-from-false (eqb k 0) (ne-eqb k 0 (number .1))) (found .2)
             in
             absurd (both-ways (some-below 16 at-slot) none (some-from 16 at-slot (slot numbers k) (omega (arith, l, c .seats .full .0)) here))
       ]

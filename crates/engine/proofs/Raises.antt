@@ -17,9 +17,9 @@ use Rattle.engine.proofs.Views.{view-cell}
 use Rattle.engine.proofs.Wounds.{model-eq}
 
 pub raise-view :
-  {S : Type 0} (words : S → List ℕ) (c : Core S) (held : Held) (k x v : ℕ) → slot (c .seats .numbers) k < 16 → x < 256
-  → held .rows ≡ with-cell (c .held .rows) (slot (c .seats .numbers) k) x v
-  → model words (record { shelf = c .shelf; seats = c .seats; held = held; noted = c .noted })
+    {S : Type 0} (words : S → List ℕ) (c : Core S) (held : Held) (k x v : ℕ) → slot (c .seats .numbers) k < 16 → x < 256
+    → held .rows ≡ with-cell (c .held .rows) (slot (c .seats .numbers) k) x v
+    → model words (record { shelf = c .shelf; seats = c .seats; held = held; noted = c .noted })
     ≡ model-hands .with-jobs (raise k x v (jobs-of (c .seats) (c .held))) (model words c)
 raise-view words c held k x v l h e =
     let numbers = c .seats .numbers in

@@ -44,7 +44,7 @@ among-slot numbers k some e = omega (arith, slot-some numbers k some, among-plac
 
 -- the slot of the number in a slot
 pub slot-own-number :
-  (numbers : List ℕ) (i : ℕ) → i < length numbers → distinct numbers ≡ true → (getD numbers i 0 ≡ 0 → ⊥) → slot numbers (getD numbers i 0) ≡ i
+    (numbers : List ℕ) (i : ℕ) → i < length numbers → distinct numbers ≡ true → (getD numbers i 0 ≡ 0 → ⊥) → slot numbers (getD numbers i 0) ≡ i
 slot-own-number numbers i l e some = slot-some numbers (getD numbers i 0) some ∙ place-own numbers i l e some
 
 -- two jobs do not share a slot
@@ -72,35 +72,36 @@ view-set rows d numbers k v e l j =
 -- every cell of an empty row is empty
 empty : {A : Type 0} (n : ℕ) (d : A) (x : ℕ) → getD (replicate n d) x d ≡ d
 empty n d x =
-    elim (cases-lt x n)
-    [ inl h ↦ getD-replicate n x d d h
-    | inr h ↦ getD-past (replicate n d) x d (rw length-replicate h)
+    elim (cases-lt x n) [
+      | inl h ↦ getD-replicate n x d d h
+      | inr h ↦ getD-past (replicate n d) x d (rw length-replicate h)
     ]
 
 -- The same, cell by cell.
 view-row :
-  {A : Type 0} (rows : List (List A)) (d : A) (numbers : List ℕ) (k : ℕ) (row : List A) → length rows ≡ length numbers → slot numbers k < length numbers
-  → (j x : ℕ) → cell d (set rows (slot numbers k) row) (slot numbers j) x ≡ put {A = ℕ → A} k (λ y. getD row y d) (λ i y. cell d rows (slot numbers i) y) j x
+    {A : Type 0} (rows : List (List A)) (d : A) (numbers : List ℕ) (k : ℕ) (row : List A) → length rows ≡ length numbers → slot numbers k < length numbers
+    → (j x : ℕ) → cell d (set rows (slot numbers k) row) (slot numbers j) x ≡ put {A = ℕ → A} k (λ y. getD row y d) (λ i y. cell d rows (slot numbers i) y) j x
 view-row {A} rows d numbers k row e l j x = ap (λ (r : List A). getD r x d) (view-set rows [] numbers k row e l j) ∙ at-row
   where
     own : ℕ → List A
     own i = getD rows (slot numbers i) []
+
     at-row : getD (put k row own j) x d ≡ put {A = ℕ → A} k (λ y. getD row y d) (λ i y. getD (own i) y d) j x
     at-row =
-        elim (cases-eq j k)
-        [ inl s ↦
-            ap (λ (r : List A). getD r x d) (put-at k row own j s)
-            ∙ sym (ap (λ (f : ℕ → A). f x) (put-at {A = ℕ → A} k (λ y. getD row y d) (λ i y. getD (own i) y d) j s))
-        | inr s ↦
-            ap (λ (r : List A). getD r x d) (put-other k row own j s)
-            ∙ sym (ap (λ (f : ℕ → A). f x) (put-other {A = ℕ → A} k (λ y. getD row y d) (λ i y. getD (own i) y d) j s))
+        elim (cases-eq j k) [
+          | inl s ↦
+              ap (λ (r : List A). getD r x d) (put-at k row own j s)
+              ∙ sym (ap (λ (f : ℕ → A). f x) (put-at {A = ℕ → A} k (λ y. getD row y d) (λ i y. getD (own i) y d) j s))
+          | inr s ↦
+              ap (λ (r : List A). getD r x d) (put-other k row own j s)
+              ∙ sym (ap (λ (f : ℕ → A). f x) (put-other {A = ℕ → A} k (λ y. getD row y d) (λ i y. getD (own i) y d) j s))
         ]
 
 -- An empty row written at the slot of job k leaves job k empty, and nobody else changed.
 pub view-wiped :
-  {A : Type 0} (rows : List (List A)) (d : A) (numbers : List ℕ) (k : ℕ) → length rows ≡ length numbers → slot numbers k < length numbers
-  → (j x : ℕ)
-  → cell d (set rows (slot numbers k) (replicate 256 d)) (slot numbers j) x
+    {A : Type 0} (rows : List (List A)) (d : A) (numbers : List ℕ) (k : ℕ) → length rows ≡ length numbers → slot numbers k < length numbers
+    → (j x : ℕ)
+    → cell d (set rows (slot numbers k) (replicate 256 d)) (slot numbers j) x
     ≡ where-so {A = ℕ → A} (λ i. eqb i k) (λ _. d) (λ i y. cell d rows (slot numbers i) y) j x
 view-wiped {A} rows d numbers k e l j x =
     view-row rows d numbers k (replicate 256 d) e l j x
@@ -108,10 +109,10 @@ view-wiped {A} rows d numbers k e l j x =
 
 -- One cell written there is one cell of job k.
 pub view-cell :
-  {A : Type 0} (rows : List (List A)) (d : A) (numbers : List ℕ) (k x : ℕ) (v : A) → length rows ≡ length numbers → slot numbers k < length numbers
-  → x < length (getD rows (slot numbers k) [])
-  → (j y : ℕ)
-  → cell d (with-cell rows (slot numbers k) x v) (slot numbers j) y
+    {A : Type 0} (rows : List (List A)) (d : A) (numbers : List ℕ) (k x : ℕ) (v : A) → length rows ≡ length numbers → slot numbers k < length numbers
+    → x < length (getD rows (slot numbers k) [])
+    → (j y : ℕ)
+    → cell d (with-cell rows (slot numbers k) x v) (slot numbers j) y
     ≡ put {A = ℕ → A} k (put x v (cell d rows (slot numbers k))) (λ i z. cell d rows (slot numbers i) z) j y
 view-cell {A} rows d numbers k x v e l h j y =
     view-row rows d numbers k (set row x v) e l j y
@@ -119,9 +120,10 @@ view-cell {A} rows d numbers k x v e l h j y =
   where
     row : List A
     row = getD rows (slot numbers k) []
+
     written : (z : ℕ) → getD (set row x v) z d ≡ put x v (λ z. getD row z d) z
     written z =
-        elim (cases-eq z x)
-        [ inl s ↦ ap (λ (i : ℕ). getD (set row x v) i d) s ∙ getD-set-same row x v d h ∙ sym (put-at x v (λ z. getD row z d) z s)
-        | inr s ↦ getD-set-other row x z v d s ∙ sym (put-other x v (λ z. getD row z d) z s)
+        elim (cases-eq z x) [
+          | inl s ↦ ap (λ (i : ℕ). getD (set row x v) i d) s ∙ getD-set-same row x v d h ∙ sym (put-at x v (λ z. getD row z d) z s)
+          | inr s ↦ getD-set-other row x z v d s ∙ sym (put-other x v (λ z. getD row z d) z s)
         ]

@@ -39,12 +39,12 @@ model-eq m n o s d w t =
 
 -- The job in a slot wounded is that job wounded in the model.
 pub wound-view :
-  {S : Type 0} (words : S → List ℕ) (c c′ : Core S) (k : ℕ) → slot (c .seats .numbers) k < 16
-  → words (c′ .shelf) ≡ taken-back (cell Nothing (c .noted .rows) (slot (c .seats .numbers) k)) (words (c .shelf))
-  → c′ .seats .numbers ≡ c .seats .numbers → c′ .seats .states ≡ set (c .seats .states) (slot (c .seats .numbers) k) Wounded
-  → c′ .seats .opened ≡ c .seats .opened → c′ .held .rows ≡ set (c .held .rows) (slot (c .seats .numbers) k) (replicate 256 0)
-  → c′ .noted .rows ≡ set (c .noted .rows) (slot (c .seats .numbers) k) (replicate 256 Nothing)
-  → model words c′ ≡ wounded-one k (model words c)
+    {S : Type 0} (words : S → List ℕ) (c c′ : Core S) (k : ℕ) → slot (c .seats .numbers) k < 16
+    → words (c′ .shelf) ≡ taken-back (cell Nothing (c .noted .rows) (slot (c .seats .numbers) k)) (words (c .shelf))
+    → c′ .seats .numbers ≡ c .seats .numbers → c′ .seats .states ≡ set (c .seats .states) (slot (c .seats .numbers) k) Wounded
+    → c′ .seats .opened ≡ c .seats .opened → c′ .held .rows ≡ set (c .held .rows) (slot (c .seats .numbers) k) (replicate 256 0)
+    → c′ .noted .rows ≡ set (c .noted .rows) (slot (c .seats .numbers) k) (replicate 256 Nothing)
+    → model words c′ ≡ wounded-one k (model words c)
 wound-view words c c′ k l w n s o h t =
     let numbers = c .seats .numbers in
     let full = c .seats .full .0 in

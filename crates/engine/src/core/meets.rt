@@ -30,7 +30,13 @@ impl<S: Shelf> Core<S> {
     }
 
     // Every younger job that is in the way is wounded, the oldest of them first.
-    pub(crate) fn wound_younger<M: ModeSystem>(&mut self, system: &M, asker: u32, granule: usize, target: u8)
+    pub(crate) fn wound_younger<M: ModeSystem>(
+        &mut self,
+        system: &M,
+        asker: u32,
+        granule: usize,
+        target: u8,
+    )
         requires { ⌜ granule < 256 ⌝ }
         ensures model { λ _. ⌜ model (S·Shelf .words) (now (self .exit)) ≡ model-hands .wound (yields (M·ModeSystem .meaning) (jobs-of (now (self .entry) .seats) (now (self .entry) .held)) asker granule target) (model (S·Shelf .words) (now (self .entry))) ⌝ }
         ensures numbers { λ _. ⌜ now (self .exit) .seats .numbers ≡ now (self .entry) .seats .numbers ⌝ }
@@ -43,7 +49,14 @@ impl<S: Shelf> Core<S> {
     }
 
     // Whether the job in a slot holds up one that asks for a target on a granule.
-    fn holds_up_at<M: ModeSystem>(&self, system: &M, asker: u32, granule: usize, target: u8, slot: usize) -> bool
+    fn holds_up_at<M: ModeSystem>(
+        &self,
+        system: &M,
+        asker: u32,
+        granule: usize,
+        target: u8,
+        slot: usize,
+    ) -> bool
         requires slot { ⌜ slot < 16 ⌝ }
         requires granule { ⌜ granule < 256 ⌝ }
         ensures value { λ r. ⌜ r ≡ holds-up-at (M·ModeSystem .meaning) (now (self .entry) .seats) (now (self .entry) .held) asker granule target slot ⌝ }
@@ -59,7 +72,13 @@ impl<S: Shelf> Core<S> {
     }
 
     // Whether an older job is in the way.
-    pub(crate) fn is_held_up<M: ModeSystem>(&self, system: &M, asker: u32, granule: usize, target: u8) -> bool
+    pub(crate) fn is_held_up<M: ModeSystem>(
+        &self,
+        system: &M,
+        asker: u32,
+        granule: usize,
+        target: u8,
+    ) -> bool
         requires { ⌜ granule < 256 ⌝ }
         ensures value { λ r. ⌜ r ≡ some-below asker (blocks (M·ModeSystem .meaning) (jobs-of (now (self .entry) .seats) (now (self .entry) .held)) asker granule target) ⌝ }
     {

@@ -21,7 +21,7 @@ returns-then-holds-up-at g c =
 pub loop-slot-again : need.loop-slot-again
 loop-slot-again g c =
     let here : ℕ → Bool =
-      holds-up-at (g .M·ModeSystem .meaning) (c .args .self .now .seats) (c .args .self .now .held) (c .args .asker) (c .args .granule) (c .args .target)
+    holds-up-at (g .M·ModeSystem .meaning) (c .args .self .now .seats) (c .args .self .now .held) (c .args .asker) (c .args .granule) (c .args .target)
     in
     some-more (c .loop-slot .slot) here
     ∙ or-from (some-below (c .loop-slot .slot) here) (here (c .loop-slot .slot)) (c .loop-slot .inv) (sym (c .if-holds-up-at .ensures tt .value))
@@ -30,7 +30,7 @@ pub returns : need.returns
 returns g c =
     let last : c .loop-slot .slot ≡ 16 = omega arith in
     let here : ℕ → Bool =
-      holds-up-at (g .M·ModeSystem .meaning) (c .args .self .now .seats) (c .args .self .now .held) (c .args .asker) (c .args .granule) (c .args .target)
+    holds-up-at (g .M·ModeSystem .meaning) (c .args .self .now .seats) (c .args .self .now .held) (c .args .asker) (c .args .granule) (c .args .target)
     in
     record {
       value =

@@ -14,10 +14,10 @@ returns-then-stopped g c =
     let here = c .slot-of-slot .ensures .value in
     let mode = c .get-mode .result in
     let has-mode : mode ≡ cell 0 (start .held .rows) (slot (start .seats .numbers) (c .args .walker .job)) (c .args .granule) =
-      c .get-mode .ensures .value ∙ ap (λ (i : ℕ). cell 0 (start .held .rows) i (c .args .granule)) here
+    c .get-mode .ensures .value ∙ ap (λ (i : ℕ). cell 0 (start .held .rows) i (c .args .granule)) here
     in
     let short : s .join mode (s .full (c .args .walker .kind)) ≡ mode → ⊥ =
-      λ z. c .if-join-mode .left (c .join .ensures .value ∙ ap (s .join mode) (c .full-full .ensures .value) ∙ z)
+    λ z. c .if-join-mode .left (c .join .ensures .value ∙ ap (s .join mode) (c .full-full .ensures .value) ∙ z)
     in
     record {
       walk =
@@ -33,10 +33,10 @@ returns g c =
     let here = c .slot-of-slot .ensures .value in
     let mode = c .get-mode .result in
     let has-mode : mode ≡ cell 0 (start .held .rows) (slot (start .seats .numbers) (c .args .walker .job)) (c .args .granule) =
-      c .get-mode .ensures .value ∙ ap (λ (i : ℕ). cell 0 (start .held .rows) i (c .args .granule)) here
+    c .get-mode .ensures .value ∙ ap (λ (i : ℕ). cell 0 (start .held .rows) i (c .args .granule)) here
     in
     let short : s .join mode (s .full (c .args .walker .kind)) ≡ mode → ⊥ =
-      λ z. c .if-join-mode .left (c .join .ensures .value ∙ ap (s .join mode) (c .full-full .ensures .value) ∙ z)
+    λ z. c .if-join-mode .left (c .join .ensures .value ∙ ap (s .join mode) (c .full-full .ensures .value) ∙ z)
     in
     record {
       walk =

@@ -26,15 +26,15 @@ loop-job-less g c =
     let start = c .args .self .now in
     let job = c .loop-job .job in
     let near =
-      nearer-end (g .M·ModeSystem .meaning) (g .M·ModeSystem·met .lawful) (g .S·Shelf .words) start (c .args .asker) (c .args .granule) (c .args .target)
-      (c .loop-job .self) job (c .loop-job-test .taken) (c .loop-job .inv)
+    nearer-end (g .M·ModeSystem .meaning) (g .M·ModeSystem·met .lawful) (g .S·Shelf .words) start (c .args .asker) (c .args .granule) (c .args .target)
+    (c .loop-job .self) job (c .loop-job-test .taken) (c .loop-job .inv)
     in
     let next : c .next-above-job-in-loop-job .result ≡ next-above job (start .seats .numbers) =
-      c .next-above-job-in-loop-job .ensures .value
-      ∙ ap (next-above job) (c .meet .ensures .numbers ∙ c .loop-job .inv .numbers)
+    c .next-above-job-in-loop-job .ensures .value
+    ∙ ap (next-above job) (c .meet .ensures .numbers ∙ c .loop-job .inv .numbers)
     in
     let less : suc (start .seats .opened) - far (start .seats .opened) (next-above job (start .seats .numbers)) < suc (start .seats .opened) - far (start .seats .opened) job =
-      omega (arith, near .0, near .1, near .2)
+    omega (arith, near .0, near .1, near .2)
     in
     subst (λ (j : ℕ). suc (start .seats .opened) - far (start .seats .opened) j < suc (start .seats .opened) - far (start .seats .opened) job) (sym next) less
 
@@ -43,8 +43,8 @@ loop-job-again g c =
     let start = c .args .self .now in
     let job = c .loop-job .job in
     let next : c .next-above-job-in-loop-job .result ≡ next-above job (start .seats .numbers) =
-      c .next-above-job-in-loop-job .ensures .value
-      ∙ ap (next-above job) (c .meet .ensures .numbers ∙ c .loop-job .inv .numbers)
+    c .next-above-job-in-loop-job .ensures .value
+    ∙ ap (next-above job) (c .meet .ensures .numbers ∙ c .loop-job .inv .numbers)
     in
     subst (λ (j : ℕ). Reached (g .M·ModeSystem .meaning) (g .M·ModeSystem·met .lawful) (g .S·Shelf .words) start (c .args .asker) (c .args .granule) (c .args .target) (c .meet .last .self) j)
     (sym next)
