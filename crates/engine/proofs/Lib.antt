@@ -1,5 +1,7 @@
 pub mod Places
+pub mod Slots
 pub mod Grids
+pub mod Tallies
 pub mod Words
 pub mod Views
 pub mod Wounds

@@ -10,9 +10,7 @@ use lib.ListN.{length, getD, set}
 use Rattle.std.proofs.shelf.Tests.{cases-eq, cases-lt, cases-bool, and-parts, and-left, and-right, cond-true, cond-false, lt-ltb, le-ltb, and-from, or-cases, or-left, or-right, or-parts, or-from, both-ways, not-true, not-from-false, eq-eqb, ne-eqb, eqb-true, le-leb, leb-true}
 use Rattle.std.specs.Iters.{folded}
 use Rattle.granules.specs.Paths.{among}
-use Rattle.ledger.specs.declared.job.Status.{Status}
-use Rattle.ledger.specs.Jobs.{is-ended}
-use Rattle.engine.specs.Seats.{place, slot, distinct, all-given, busy, nearer, next-above}
+use Rattle.engine.specs.Seats.{place, slot, distinct, all-given, nearer, next-above}
 
 place-here : (x : ℕ) (xs : List ℕ) (k : ℕ) → x ≡ k → place (x ∷ xs) k ≡ 0
 place-here x xs k e = let t = eq-eqb x k e in rw (t, place)
@@ -116,39 +114,6 @@ distinct-free (x ∷ xs) (suc i) e =
           ]
     ])
     (distinct-free xs i (p .1))
-
--- Whoever sits down has not ended, and whoever leaves need not care.
-pub busy-sit : (xs : List ℕ) (ss : List Status) (i v : ℕ) (st : Status) → is-ended st ≡ false → busy xs ss ≡ true → busy (set xs i v) (set ss i st) ≡ true
-busy-sit [] ss i v st h e = refl
-busy-sit (x ∷ xs) [] zero v st h e = refl
-busy-sit (x ∷ xs) [] (suc i) v st h e = refl
-busy-sit (x ∷ xs) (s ∷ ss) zero v st h e =
-    and-from (eqb v 0 || not (is-ended st)) (busy xs ss) (or-right (eqb v 0) (not (is-ended st)) (not-from-false (is-ended st) h))
-    (and-parts (eqb x 0 || not (is-ended s)) (busy xs ss) e .1)
-busy-sit (x ∷ xs) (s ∷ ss) (suc i) v st h e =
-    let p = and-parts (eqb x 0 || not (is-ended s)) (busy xs ss) e in
-    and-from (eqb x 0 || not (is-ended s)) (busy (set xs i v) (set ss i st)) (p .0) (busy-sit xs ss i v st h (p .1))
-
-pub busy-turn : (xs : List ℕ) (ss : List Status) (i : ℕ) (st : Status) → is-ended st ≡ false → busy xs ss ≡ true → busy xs (set ss i st) ≡ true
-busy-turn [] ss i st h e = refl
-busy-turn (x ∷ xs) [] i st h e = refl
-busy-turn (x ∷ xs) (s ∷ ss) zero st h e =
-    and-from (eqb x 0 || not (is-ended st)) (busy xs ss) (or-right (eqb x 0) (not (is-ended st)) (not-from-false (is-ended st) h))
-    (and-parts (eqb x 0 || not (is-ended s)) (busy xs ss) e .1)
-busy-turn (x ∷ xs) (s ∷ ss) (suc i) st h e =
-    let p = and-parts (eqb x 0 || not (is-ended s)) (busy xs ss) e in
-    and-from (eqb x 0 || not (is-ended s)) (busy xs (set ss i st)) (p .0) (busy-turn xs ss i st h (p .1))
-
-pub busy-leave : (xs : List ℕ) (ss : List Status) (i : ℕ) → busy xs ss ≡ true → busy (set xs i 0) ss ≡ true
-busy-leave [] ss i e = refl
-busy-leave (x ∷ xs) [] zero e = refl
-busy-leave (x ∷ xs) [] (suc i) e = refl
-busy-leave (x ∷ xs) (s ∷ ss) zero e =
-    and-from (eqb 0 0 || not (is-ended s)) (busy xs ss) (or-left (eqb 0 0) (not (is-ended s)) refl)
-    (and-parts (eqb x 0 || not (is-ended s)) (busy xs ss) e .1)
-busy-leave (x ∷ xs) (s ∷ ss) (suc i) e =
-    let p = and-parts (eqb x 0 || not (is-ended s)) (busy xs ss) e in
-    and-from (eqb x 0 || not (is-ended s)) (busy (set xs i 0) ss) (p .0) (busy-leave xs ss i (p .1))
 
 -- the better of two is one of them, is above n if it is any, and is not above the other
 nearer-new : (n b x : ℕ) → n < x → (b ≡ 0) ⊎ (x < b) → nearer n b x ≡ x

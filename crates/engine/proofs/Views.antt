@@ -7,13 +7,16 @@ use Prim.Native.Nat.{ℕ, zero, suc, _<_, _≤_}
 use native.Mathlib.Omega.{arith}
 use lib.Dec.{eqb}
 use lib.ListN.{length, getD, set, replicate}
-use Rattle.std.proofs.shelf.Lists.{getD-set-same, getD-set-other, getD-replicate, getD-past, length-replicate}
+use Rattle.std.proofs.shelf.Lists.{getD-set-same, getD-set-other}
 use Rattle.std.proofs.shelf.Tests.{cases-eq, cases-lt, eq-eqb, ne-eqb}
 use Rattle.granules.specs.Paths.{among}
-use Rattle.ledger.specs.Jobs.{put, where-so}
+use Rattle.ledger.specs.declared.job.Status.the-variants.{Ended}
+use Rattle.ledger.specs.Jobs.{is-ended, put, where-so}
 use Rattle.ledger.proofs.Piles.{put-at, put-other}
+use Rattle.engine.specs.declared.seats.Seats.{Seats}
 use Rattle.engine.specs.Grids.{cell, with-cell}
 use Rattle.engine.specs.Seats.{place, slot, distinct}
+use Rattle.engine.proofs.Grids.{empty}
 use Rattle.engine.proofs.Places.{place-at, place-among, among-place, place-own}
 
 slot-none : (numbers : List ℕ) (k : ℕ) → k ≡ 0 → slot numbers k ≡ length numbers
@@ -54,6 +57,20 @@ slot-own numbers j k e l =
     let b = slot-number numbers k l .0 in
     sym a ∙ ap (λ (i : ℕ). getD numbers i 0) e ∙ b
 
+-- whoever sits in a slot has not ended
+pub seated-lives : (seats : Seats) (k : ℕ) → slot (seats .numbers) k < 16 → is-ended (getD (seats .states) (slot (seats .numbers) k) Ended) ≡ false
+seated-lives seats k l =
+    let n = slot-number (seats .numbers) k (omega (arith, seats .full .0)) in
+    sym (seats .free (slot (seats .numbers) k))
+    ∙ ap (λ (j : ℕ). eqb j 0) (n .0)
+    ∙ ne-eqb k 0 (n .1)
+
+-- and its slot is not free
+pub not-free : (seats : Seats) (k i : ℕ) → slot (seats .numbers) k < 16 → getD (seats .numbers) i 0 ≡ 0 → i ≡ slot (seats .numbers) k → ⊥
+not-free seats k i l free e =
+    let n = slot-number (seats .numbers) k (omega (arith, seats .full .0)) in
+    n .1 (sym (n .0) ∙ ap (λ (j : ℕ). getD (seats .numbers) j 0) (sym e) ∙ free)
+
 -- A row written at the slot of job k is what job k has, and nobody else.
 pub view-set :
     {A : Type 0} (rows : List A) (d : A) (numbers : List ℕ) (k : ℕ) (v : A) → length rows ≡ length numbers → slot numbers k < length numbers
@@ -67,14 +84,6 @@ view-set rows d numbers k v e l j =
       | inr s ↦
           getD-set-other rows (slot numbers k) (slot numbers j) v d (λ (z : slot numbers j ≡ slot numbers k). s (slot-own numbers j k z l))
           ∙ sym (put-other k v (λ i. getD rows (slot numbers i) d) j s)
-    ]
-
--- every cell of an empty row is empty
-empty : {A : Type 0} (n : ℕ) (d : A) (x : ℕ) → getD (replicate n d) x d ≡ d
-empty n d x =
-    elim (cases-lt x n) [
-      | inl h ↦ getD-replicate n x d d h
-      | inr h ↦ getD-past (replicate n d) x d (rw length-replicate h)
     ]
 
 -- The same, cell by cell.

@@ -8,7 +8,6 @@ use Rattle.std.specs.Iters.{folded}
 use Rattle.granules.specs.Paths.{among}
 use Rattle.ledger.specs.declared.job.Status.{Status}
 use Rattle.ledger.specs.declared.job.Status.the-variants.{Ended}
-use Rattle.ledger.specs.Jobs.{is-ended}
 
 -- The first place of a list that has k; past the end if there is none.
 abbrev pub place : List ℕ → ℕ → ℕ
@@ -32,12 +31,6 @@ distinct (x ∷ xs) = (eqb x 0 || not (among x xs)) && distinct xs
 abbrev pub all-given : ℕ → List ℕ → Bool
 all-given opened [] = true
 all-given opened (x ∷ xs) = leb x opened && all-given opened xs
-
--- No job that sits in a slot has ended.
-abbrev pub busy : List ℕ → List Status → Bool
-busy [] states = true
-busy (x ∷ xs) [] = true
-busy (x ∷ xs) (s ∷ ss) = (eqb x 0 || not (is-ended s)) && busy xs ss
 
 -- The better of a number so far, 0 for none, and another: the smaller of those above n.
 abbrev pub nearer : ℕ → ℕ → ℕ → ℕ

@@ -1,4 +1,5 @@
 -- How the state of a job moves with what happens to it.
+use mathlib.Core.Bool.{Bool, true, false}
 use Rattle.operations.specs.declared.operation.Operation.{Operation}
 use Rattle.ledger.specs.declared.job.Status.{Status}
 use Rattle.ledger.specs.declared.job.Status.the-variants.{Working, Waiting, Wounded, Ended}
@@ -31,3 +32,12 @@ moved Ended (Stop o) = Ended
 moved Ended Wound = Ended
 moved Ended Reopen = Ended
 moved Ended End = Ended
+
+-- What happens to a job while it sits: all but sitting down and getting up.
+abbrev pub in-seat : Event → Bool
+in-seat Open = false
+in-seat Through = true
+in-seat (Stop o) = true
+in-seat Wound = true
+in-seat Reopen = true
+in-seat End = false

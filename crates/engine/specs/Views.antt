@@ -24,5 +24,9 @@ jobs-of seats held =
 abbrev pub notes-of : Seats → Noted → ℕ → ℕ → Note
 notes-of seats noted k r = cell Nothing (noted .rows) (slot (seats .numbers) k) r
 
+-- the words of a shelf, with these tables beside them
+abbrev pub whole : List ℕ → Seats → Held → Noted → Model
+whole words seats held noted = record { jobs = jobs-of seats held; words = words; notes = notes-of seats noted }
+
 abbrev pub model : {S : Type 0} → (S → List ℕ) → Core S → Model
-model words c = record { jobs = jobs-of (c .seats) (c .held); words = words (c .shelf); notes = notes-of (c .seats) (c .noted) }
+model words c = whole (words (c .shelf)) (c .seats) (c .held) (c .noted)

@@ -12,5 +12,5 @@ pub mod cells;
 pub struct Noted {
     rows: [[Note; 256]; 16],
     ghost full: { length rows ≡ 16 },
-    ghost long: { all-long rows ≡ true },
+    ghost long: { all-long 256 rows ≡ true },
 }

@@ -3,15 +3,16 @@ ghost use mathlib.Core.Path.{_≡_};
 ghost use Prim.Native.Nat.{ℕ, _<_};
 ghost use lib.ListN.{getD, set, replicate};
 ghost use Rattle.ledger.specs.declared.job.Note.the-variants.{Nothing};
-ghost use Rattle.ledger.specs.declared.job.Status.the-variants.{Wounded};
+ghost use Rattle.ledger.specs.declared.job.Status.the-variants.{Ended};
+ghost use Rattle.engine.specs.declared.slot.Event.the-variants.{Wound};
 ghost use Rattle.ledger.specs.Models.{back, taken-back};
 ghost use Rattle.engine.specs.Grids.{cell};
 ghost use Rattle.engine.specs.Seats.{slot};
+ghost use Rattle.engine.specs.Slots.{moved};
 ghost use Rattle.engine.specs.Views.{model};
 ghost use Rattle.engine.specs.Wounds.{wounded-one};
 use super::Core;
-use ledger::Note;
-use ledger::Status;
+use crate::slot::Event;
 use shelf::Shelf;
 
 impl<S: Shelf> Core<S> {
@@ -48,7 +49,7 @@ impl<S: Shelf> Core<S> {
         requires { ⌜ slot < 16 ⌝ }
         ensures words { λ _. ⌜ S·Shelf .words (now (self .exit) .shelf) ≡ taken-back (cell Nothing (now (self .entry) .noted .rows) slot) (S·Shelf .words (now (self .entry) .shelf)) ⌝ }
         ensures numbers { λ _. ⌜ now (self .exit) .seats .numbers ≡ now (self .entry) .seats .numbers ⌝ }
-        ensures states { λ _. ⌜ now (self .exit) .seats .states ≡ set (now (self .entry) .seats .states) slot Wounded ⌝ }
+        ensures states { λ _. ⌜ now (self .exit) .seats .states ≡ set (now (self .entry) .seats .states) slot (moved (getD (now (self .entry) .seats .states) slot Ended) Wound) ⌝ }
         ensures opened { λ _. ⌜ now (self .exit) .seats .opened ≡ now (self .entry) .seats .opened ⌝ }
         ensures held { λ _. ⌜ now (self .exit) .held .rows ≡ set (now (self .entry) .held .rows) slot (replicate 256 0) ⌝ }
         ensures noted { λ _. ⌜ now (self .exit) .noted .rows ≡ set (now (self .entry) .noted .rows) slot (replicate 256 Nothing) ⌝ }
@@ -56,7 +57,7 @@ impl<S: Shelf> Core<S> {
         self.take_back(slot);
         self.held.wipe(slot);
         self.noted.wipe(slot);
-        self.seats.turn(slot, Status::Wounded);
+        self.seats.turn(slot, Event::Wound);
     }
 
     // A job that sits in a slot is wounded, as the model has it.

@@ -53,6 +53,7 @@ impl<S: Shelf> Core<S> {
     fn raise(&mut self, job: u32, granule: usize, mode: u8)
         requires seated { ⌜ slot (now self .seats .numbers) job < 16 ⌝ }
         requires granule { ⌜ granule < 256 ⌝ }
+        requires mode { ⌜ mode < 16 ⌝ }
         ensures model { λ _. ⌜ model (S·Shelf .words) (now (self .exit)) ≡ model-hands .with-jobs (raise job granule mode (jobs-of (now (self .entry) .seats) (now (self .entry) .held))) (model (S·Shelf .words) (now (self .entry))) ⌝ }
         ensures numbers { λ _. ⌜ now (self .exit) .seats .numbers ≡ now (self .entry) .seats .numbers ⌝ }
     {

@@ -4,13 +4,17 @@ ghost use Prim.Native.Nat.{_<_};
 ghost use lib.ListN.{set, replicate};
 ghost use Rattle.engine.specs.Grids.{cell, with-cell};
 use super::Held;
+use super::counts::with;
+use super::counts::without;
 
 impl Held {
+    // Nobody holds anything.
     pub fn new() -> Held
         ensures rows { λ r. ⌜ r .rows ≡ replicate 16 (replicate 256 0) ⌝ }
     {
         Held {
             rows: [[0; 256]; 16],
+            counts: [[0; 16]; 256],
         }
     }
 
@@ -22,19 +26,25 @@ impl Held {
         self.rows[slot][granule]
     }
 
-    pub(crate) fn put(&mut self, slot: usize, granule: usize, value: u8)
+    pub(crate) fn put(&mut self, slot: usize, granule: usize, mode: u8)
         requires slot { ⌜ slot < 16 ⌝ }
         requires granule { ⌜ granule < 256 ⌝ }
-        ensures rows { λ _. ⌜ now (self .exit) .rows ≡ with-cell (now (self .entry) .rows) slot granule value ⌝ }
+        requires mode { ⌜ mode < 16 ⌝ }
+        ensures rows { λ _. ⌜ now (self .exit) .rows ≡ with-cell (now (self .entry) .rows) slot granule mode ⌝ }
     {
-        self.rows[slot][granule] = value;
+        let old = self.rows[slot][granule];
+        let others = without(self.counts[granule], old);
+        self.counts[granule] = with(others, mode);
+        self.rows[slot][granule] = mode;
     }
 
-    // The whole row of a slot made blank.
+    // A slot that holds nothing any more.
     pub(crate) fn wipe(&mut self, slot: usize)
         requires { ⌜ slot < 16 ⌝ }
         ensures rows { λ _. ⌜ now (self .exit) .rows ≡ set (now (self .entry) .rows) slot (replicate 256 0) ⌝ }
     {
-        self.rows[slot] = [0; 256];
+        for granule in 0..256 {
+            self.put(slot, granule, 0);
+        }
     }
 }

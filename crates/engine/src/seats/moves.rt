@@ -1,11 +1,13 @@
 // Taking a seat, moving on, and leaving.
-ghost use mathlib.Core.Bool.{false};
+ghost use mathlib.Core.Bool.{true};
 ghost use mathlib.Core.Path.{_≡_};
 ghost use Prim.Native.Nat.{_+_, _<_};
 ghost use lib.ListN.{getD, set, replicate};
 ghost use Rattle.ledger.specs.declared.job.Status.the-variants.{Working, Ended};
-ghost use Rattle.ledger.specs.Jobs.{is-ended};
+ghost use Rattle.engine.specs.Slots.{moved, in-seat};
 use super::Seats;
+use crate::slot::Event;
+use crate::slot::Slot;
 use ledger::Status;
 
 impl Seats {
@@ -22,38 +24,52 @@ impl Seats {
         }
     }
 
-    // The next number sits down in a slot, working.
+    // The state that follows on an event in a slot.
+    fn next(&self, slot: usize, event: Event) -> Status
+        requires { ⌜ slot < 16 ⌝ }
+        ensures value { λ r. ⌜ r ≡ moved (getD (now (self .entry) .states) slot Ended) event ⌝ }
+    {
+        let mut job = Slot {
+            state: self.states[slot],
+        };
+        job.meet(event);
+        job.state
+    }
+
+    // The next number sits down in a free slot, working.
     pub(crate) fn sit(&mut self, slot: usize)
         requires within { ⌜ slot < 16 ⌝ }
+        requires vacant { ⌜ getD (now self .numbers) slot 0 ≡ 0 ⌝ }
         requires left { ⌜ now self .opened < 1000000 ⌝ }
         ensures numbers { λ _. ⌜ now (self .exit) .numbers ≡ set (now (self .entry) .numbers) slot (now (self .entry) .opened + 1) ⌝ }
         ensures states { λ _. ⌜ now (self .exit) .states ≡ set (now (self .entry) .states) slot Working ⌝ }
         ensures opened { λ _. ⌜ now (self .exit) .opened ≡ now (self .entry) .opened + 1 ⌝ }
     {
         let number = self.opened + 1;
+        self.states[slot] = self.next(slot, Event::Open);
         self.numbers[slot] = number;
-        self.states[slot] = Status::Working;
         self.opened = number;
     }
 
-    // The job in a slot has another state, in which it has not ended.
-    pub(crate) fn turn(&mut self, slot: usize, state: Status)
+    // Something happens to the job in a slot, which keeps its seat.
+    pub(crate) fn turn(&mut self, slot: usize, event: Event)
         requires within { ⌜ slot < 16 ⌝ }
-        requires lives { ⌜ is-ended state ≡ false ⌝ }
+        requires stays { ⌜ in-seat event ≡ true ⌝ }
         ensures numbers { λ _. ⌜ now (self .exit) .numbers ≡ now (self .entry) .numbers ⌝ }
-        ensures states { λ _. ⌜ now (self .exit) .states ≡ set (now (self .entry) .states) slot state ⌝ }
+        ensures states { λ _. ⌜ now (self .exit) .states ≡ set (now (self .entry) .states) slot (moved (getD (now (self .entry) .states) slot Ended) event) ⌝ }
         ensures opened { λ _. ⌜ now (self .exit) .opened ≡ now (self .entry) .opened ⌝ }
     {
-        self.states[slot] = state;
+        self.states[slot] = self.next(slot, event);
     }
 
-    // The slot is free again.
+    // The job in a slot ends, and the slot is free again.
     pub(crate) fn leave(&mut self, slot: usize)
         requires { ⌜ slot < 16 ⌝ }
         ensures numbers { λ _. ⌜ now (self .exit) .numbers ≡ set (now (self .entry) .numbers) slot 0 ⌝ }
-        ensures states { λ _. ⌜ now (self .exit) .states ≡ now (self .entry) .states ⌝ }
+        ensures states { λ _. ⌜ now (self .exit) .states ≡ set (now (self .entry) .states) slot Ended ⌝ }
         ensures opened { λ _. ⌜ now (self .exit) .opened ≡ now (self .entry) .opened ⌝ }
     {
+        self.states[slot] = self.next(slot, Event::End);
         self.numbers[slot] = 0;
     }
 }

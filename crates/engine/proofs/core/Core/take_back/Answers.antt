@@ -50,7 +50,7 @@ returns g c =
           (λ k w h.
           ap (λ (n : Note). back n w)
           (getD-past (getD (start .noted .rows) (c .args .slot) []) k Nothing
-          (omega (arith, long-at (start .noted .rows) (c .args .slot) (omega (arith, start .noted .full, c .pre)) (start .noted .long)))));
+          (omega (arith, long-at 256 (start .noted .rows) (c .args .slot) (omega (arith, start .noted .full, c .pre)) (start .noted .long)))));
       seats = inv .1;
       held = inv .2;
       noted = inv .3;

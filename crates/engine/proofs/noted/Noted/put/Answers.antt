@@ -11,7 +11,7 @@ ghost-self c =
     let t = c .args .self .now in (
       length-set (t .rows) (c .args .slot) (set (getD (t .rows) (c .args .slot) []) (c .args .granule) (c .args .value)) ∙ t .full,
       (
-        long-put (t .rows) (c .args .slot) (c .args .granule) (c .args .value) (omega (arith, t .full, c .pre .slot)) (t .long),
+        long-put 256 (t .rows) (c .args .slot) (c .args .granule) (c .args .value) (omega (arith, t .full, c .pre .slot)) (t .long),
         tt,
       ),
     )

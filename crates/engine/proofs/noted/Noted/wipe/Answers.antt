@@ -6,4 +6,4 @@ use Rattle.engine.proofs.noted.Noted.wipe.Needs as need
 pub ghost-self : need.ghost-self
 ghost-self c =
     let t = c .args .self .now in
-    (length-set (t .rows) (c .args .slot) _ ∙ t .full, (long-set (t .rows) (c .args .slot) _ refl (t .long), tt))
+    (length-set (t .rows) (c .args .slot) _ ∙ t .full, (long-set 256 (t .rows) (c .args .slot) _ refl (t .long), tt))

@@ -1,21 +1,36 @@
-use mathlib.Core.Path.{_∙_}
+use mathlib.Core.Path.{_≡_, refl, sym, _∙_, ap}
 use native.Mathlib.Omega.{arith}
+use lib.ListN.{getD, set}
+use Rattle.ledger.specs.declared.job.Status.{Status}
+use Rattle.ledger.specs.declared.job.Status.the-variants.{Ended}
+use Rattle.ledger.specs.Jobs.{is-ended}
 use Rattle.std.proofs.shelf.Lists.{length-set}
-use Rattle.engine.proofs.Places.{distinct-free, given-set, busy-leave}
+use Rattle.engine.proofs.Places.{distinct-free, given-set}
+use Rattle.engine.proofs.Slots.{ends, free-set}
 use Rattle.engine.proofs.seats.Seats.leave.Needs as need
 
 pub ghost-self : need.ghost-self
 ghost-self c =
     let t = c .args .self .now in (
-      (length-set (t .numbers) _ _ ∙ t .full .0, t .full .1),
+      (length-set (t .numbers) _ _ ∙ t .full .0, length-set (t .states) _ _ ∙ t .full .1),
       (
         distinct-free (t .numbers) _ (t .apart),
         (
           given-set (t .opened) (t .numbers) _ _ (omega arith) (t .known),
           (
-            busy-leave (t .numbers) (t .states) _ (t .seated),
+            free-set (t .numbers) (t .states) _ _ _ (omega (arith, t .full .0, c .pre)) (omega (arith, t .full .1, c .pre)) (t .free)
+                (sym (ap is-ended (c .next .ensures .value ∙ ends (getD (t .states) (c .args .slot) Ended)))),
             tt,
           ),
         ),
       ),
     )
+
+pub returns : need.returns
+returns c =
+    let t = c .args .self .now in
+    record {
+      numbers = refl;
+      states = ap (set (t .states) (c .args .slot)) (c .next .ensures .value ∙ ends (getD (t .states) (c .args .slot) Ended));
+      opened = refl;
+    }

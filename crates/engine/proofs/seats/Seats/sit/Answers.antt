@@ -1,21 +1,44 @@
-use mathlib.Core.Path.{refl, _∙_}
+use mathlib.Core.Path.{_≡_, refl, sym, _∙_, ap}
+use mathlib.Core.Bool.{true}
 use native.Mathlib.Omega.{arith}
+use lib.ListN.{getD, set}
+use Rattle.ledger.specs.declared.job.Status.{Status}
+use Rattle.ledger.specs.declared.job.Status.the-variants.{Ended}
+use Rattle.ledger.specs.Jobs.{is-ended}
 use Rattle.std.proofs.shelf.Lists.{length-set}
-use Rattle.engine.proofs.Places.{distinct-new, given-set, given-more, busy-sit}
+use Rattle.std.proofs.shelf.Tests.{eq-eqb, ne-eqb}
+use Rattle.engine.proofs.Places.{distinct-new, given-set, given-more}
+use Rattle.engine.proofs.Slots.{opens, free-set}
 use Rattle.engine.proofs.seats.Seats.sit.Needs as need
 
 pub ghost-self : need.ghost-self
 ghost-self c =
-    let t = c .args .self .now in (
+    let t = c .args .self .now in
+    let ended : is-ended (getD (t .states) (c .args .slot) Ended) ≡ true =
+    sym (t .free (c .args .slot)) ∙ eq-eqb (getD (t .numbers) (c .args .slot) 0) 0 (c .pre .vacant)
+    in (
       (length-set (t .numbers) _ _ ∙ t .full .0, length-set (t .states) _ _ ∙ t .full .1),
       (
         distinct-new (t .opened) (t .numbers) _ _ (omega arith) (t .known) (t .apart),
         (
           given-set _ (t .numbers) _ _ (omega arith) (given-more (t .opened) _ (t .numbers) (omega arith) (t .known)),
           (
-            busy-sit (t .numbers) (t .states) _ _ _ refl (t .seated),
+            free-set (t .numbers) (t .states) _ _ _ (omega (arith, t .full .0, c .pre .within)) (omega (arith, t .full .1, c .pre .within)) (t .free)
+                (ne-eqb _ 0 (λ (z : _ ≡ 0). omega arith) ∙ sym (ap is-ended (c .next .ensures .value ∙ opens (getD (t .states) (c .args .slot) Ended) ended))),
             tt,
           ),
         ),
       ),
     )
+
+pub returns : need.returns
+returns c =
+    let t = c .args .self .now in
+    let ended : is-ended (getD (t .states) (c .args .slot) Ended) ≡ true =
+    sym (t .free (c .args .slot)) ∙ eq-eqb (getD (t .numbers) (c .args .slot) 0) 0 (c .pre .vacant)
+    in
+    record {
+      numbers = refl;
+      states = ap (set (t .states) (c .args .slot)) (c .next .ensures .value ∙ opens (getD (t .states) (c .args .slot) Ended) ended);
+      opened = refl;
+    }

@@ -1,0 +1,110 @@
+-- What the events of a slot leave of a state.
+use mathlib.Core.Path.{_≡_, refl, sym, _∙_, ap, ap₂}
+use mathlib.Core.Logic.{inl, inr}
+use mathlib.Core.Bool.{Bool, true, false}
+use mathlib.Core.List.{List}
+use Prim.Native.Nat.{ℕ, _<_}
+use native.Mathlib.Omega.{arith}
+use lib.Dec.{eqb}
+use lib.ListN.{length, getD, set}
+use Rattle.std.proofs.shelf.Lists.{getD-set-same, getD-set-other}
+use Rattle.std.proofs.shelf.Tests.{cases-eq, both-ways}
+use Rattle.operations.specs.declared.operation.Operation.{Operation}
+use Rattle.ledger.specs.declared.job.Status.{Status}
+use Rattle.ledger.specs.declared.job.Status.the-variants.{Working, Waiting, Wounded, Ended}
+use Rattle.ledger.specs.Jobs.{is-ended, is-open, is-wounded}
+use Rattle.engine.specs.declared.slot.Event.{Event}
+use Rattle.engine.specs.declared.slot.Event.the-variants.{Open, Through, Stop, Wound, Reopen, End}
+use Rattle.engine.specs.Slots.{moved, in-seat}
+
+-- whoever keeps the seat ends no job and opens none
+pub stays-seated : (st : Status) (e : Event) → in-seat e ≡ true → is-ended (moved st e) ≡ is-ended st
+stays-seated Working Through h = refl
+stays-seated Working (Stop o) h = refl
+stays-seated Working Wound h = refl
+stays-seated Working Reopen h = refl
+stays-seated Working Open h = absurd (both-ways false refl h)
+stays-seated Working End h = absurd (both-ways false refl h)
+stays-seated (Waiting p) Through h = refl
+stays-seated (Waiting p) (Stop o) h = refl
+stays-seated (Waiting p) Wound h = refl
+stays-seated (Waiting p) Reopen h = refl
+stays-seated (Waiting p) Open h = absurd (both-ways false refl h)
+stays-seated (Waiting p) End h = absurd (both-ways false refl h)
+stays-seated Wounded Through h = refl
+stays-seated Wounded (Stop o) h = refl
+stays-seated Wounded Wound h = refl
+stays-seated Wounded Reopen h = refl
+stays-seated Wounded Open h = absurd (both-ways false refl h)
+stays-seated Wounded End h = absurd (both-ways false refl h)
+stays-seated Ended Through h = refl
+stays-seated Ended (Stop o) h = refl
+stays-seated Ended Wound h = refl
+stays-seated Ended Reopen h = refl
+stays-seated Ended Open h = absurd (both-ways false refl h)
+stays-seated Ended End h = absurd (both-ways false refl h)
+
+pub opens : (st : Status) → is-ended st ≡ true → moved st Open ≡ Working
+opens Working h = absurd (both-ways false refl h)
+opens (Waiting p) h = absurd (both-ways false refl h)
+opens Wounded h = absurd (both-ways false refl h)
+opens Ended h = refl
+
+pub ends : (st : Status) → moved st End ≡ Ended
+ends Working = refl
+ends (Waiting p) = refl
+ends Wounded = refl
+ends Ended = refl
+
+pub wounds : (st : Status) → is-ended st ≡ false → moved st Wound ≡ Wounded
+wounds Working h = refl
+wounds (Waiting p) h = refl
+wounds Wounded h = refl
+wounds Ended h = absurd (both-ways true h refl)
+
+pub goes-through : (st : Status) → is-open st ≡ true → moved st Through ≡ Working
+goes-through Working h = refl
+goes-through (Waiting p) h = refl
+goes-through Wounded h = absurd (both-ways false refl h)
+goes-through Ended h = absurd (both-ways false refl h)
+
+pub stops : (o : Operation) (st : Status) → is-open st ≡ true → moved st (Stop o) ≡ Waiting o
+stops o Working h = refl
+stops o (Waiting p) h = refl
+stops o Wounded h = absurd (both-ways false refl h)
+stops o Ended h = absurd (both-ways false refl h)
+
+-- Slots stay free just where states are ended, when both are written in one slot and agree there.
+pub free-set :
+    (numbers : List ℕ) (states : List Status) (s v : ℕ) (st : Status) → s < length numbers → s < length states
+    → ((i : ℕ) → eqb (getD numbers i 0) 0 ≡ is-ended (getD states i Ended)) → eqb v 0 ≡ is-ended st
+    → (i : ℕ) → eqb (getD (set numbers s v) i 0) 0 ≡ is-ended (getD (set states s st) i Ended)
+free-set numbers states s v st l m h e i =
+    elim (cases-eq i s) [
+      | inl z ↦
+          ap (λ (j : ℕ). eqb (getD (set numbers s v) j 0) 0) z
+          ∙ ap (λ (n : ℕ). eqb n 0) (getD-set-same numbers s v 0 l)
+          ∙ e
+          ∙ sym (ap is-ended (getD-set-same states s st Ended m))
+          ∙ ap (λ (j : ℕ). is-ended (getD (set states s st) j Ended)) (sym z)
+      | inr z ↦
+          ap (λ (n : ℕ). eqb n 0) (getD-set-other numbers s i v 0 z)
+          ∙ h i
+          ∙ sym (ap is-ended (getD-set-other states s i st Ended z))
+    ]
+
+-- The same when only the state is written.
+pub free-turn :
+    (numbers : List ℕ) (states : List Status) (s : ℕ) (st : Status) → s < length states
+    → ((i : ℕ) → eqb (getD numbers i 0) 0 ≡ is-ended (getD states i Ended)) → is-ended st ≡ is-ended (getD states s Ended)
+    → (i : ℕ) → eqb (getD numbers i 0) 0 ≡ is-ended (getD (set states s st) i Ended)
+free-turn numbers states s st m h e i =
+    elim (cases-eq i s) [
+      | inl z ↦
+          h i
+          ∙ ap (λ (j : ℕ). is-ended (getD states j Ended)) z
+          ∙ sym e
+          ∙ sym (ap is-ended (getD-set-same states s st Ended m))
+          ∙ ap (λ (j : ℕ). is-ended (getD (set states s st) j Ended)) (sym z)
+      | inr z ↦ h i ∙ sym (ap is-ended (getD-set-other states s i st Ended z))
+    ]
