@@ -4,7 +4,10 @@ pub mod Grids
 pub mod Tallies
 pub mod Words
 pub mod Views
+pub mod Counts
+pub mod Groups
 pub mod Wounds
 pub mod Meetings
+pub mod Heads
 pub mod Raises
 pub mod Steps

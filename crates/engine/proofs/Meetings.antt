@@ -24,8 +24,8 @@ use Rattle.engine.specs.Meetings.{holds-up-at}
 use Rattle.engine.specs.Seats.{slot, next-above}
 use Rattle.engine.specs.Views.{model, jobs-of}
 use Rattle.engine.specs.Wounds.{wounded-one, wounded-if}
-use Rattle.engine.proofs.Places.{Nearest, next-nearest, new-among}
-use Rattle.engine.proofs.Views.{slot-number, slot-among, among-slot, slot-own-number}
+use Rattle.engine.proofs.Places.{Nearest, next-nearest}
+use Rattle.engine.proofs.Views.{seated-given, slot-number, slot-among, among-slot, slot-own-number}
 use Rattle.engine.proofs.Wounds.{upto, upto-here, wounded-upto, skip, start, one, all}
 
 -- where a search stands that has come to a job: at that job, or past all of them
@@ -60,14 +60,6 @@ module _ (s : System) (law : Lawful s) {S : Type 0} (words : S → List ℕ) (c 
       let young = yields-young s law (jobs-of (c .seats) (c .held)) a x t k e in
       (young .0, slot-among (c .seats .numbers) k (sits k (young .1)))
 
-  -- who sits somewhere has been opened
-  opened-yet : (k : ℕ) → among k (c .seats .numbers) ≡ true → k ≤ c .seats .opened
-  opened-yet k e =
-      elim (cases-lt (c .seats .opened) k) [
-        | inl l ↦ absurd (both-ways (among k (c .seats .numbers)) (new-among (c .seats .opened) (c .seats .numbers) k l (c .seats .known)) e)
-        | inr l ↦ l
-      ]
-
   -- nobody between a number and the next gives way
   between : (n k : ℕ) → n < k → k < far (c .seats .opened) (next-above n (c .seats .numbers)) → in-way k ≡ false
   between n k l h =
@@ -95,7 +87,7 @@ module _ (s : System) (law : Lawful s) {S : Type 0} (words : S → List ℕ) (c 
       → (suc job ≤ far (c .seats .opened) (next-above job (c .seats .numbers))) × (far (c .seats .opened) job ≡ job) × (job ≤ c .seats .opened)
   nearer-end c′ job d r =
       let next = next-above job (c .seats .numbers) in
-      let here = opened-yet job (r .seated d) in (
+      let here = seated-given (c .seats) job (r .seated d) in (
         elim (cases-eq next 0) [
           | inl z ↦ omega (arith, far-end (c .seats .opened) next z, here)
           | inr z ↦ omega (arith, far-at (c .seats .opened) next z, next-nearest job (c .seats .numbers) .above z)
@@ -163,7 +155,7 @@ module _ (s : System) (law : Lawful s) {S : Type 0} (words : S → List ℕ) (c 
       r .so-far
       ∙ ap (λ (n : ℕ). wounded-upto in-way n (model words c)) (far-end (c .seats .opened) job e)
       ∙ all in-way (model words c) (suc (c .seats .opened)) (omega arith)
-      (λ k z. omega (arith, opened-yet k (in-way-seated k z .1)))
+      (λ k z. omega (arith, seated-given (c .seats) k (in-way-seated k z .1)))
 
   -- whether a job holds up, and a slot
   abbrev older : ℕ → Bool
@@ -201,3 +193,33 @@ module _ (s : System) (law : Lawful s) {S : Type 0} (words : S → List ℕ) (c 
             in
             absurd (both-ways (some-below 16 at-slot) none (some-from 16 at-slot (slot numbers k) (omega (arith, l, c .seats .full .0)) here))
       ]
+
+  -- where everybody stands with the target nobody is in the way
+  module _ (stand : (k : ℕ) → s .stands (jobs-of (c .seats) (c .held) .mode k x) t ≡ true) where
+    pub nobody-older : some-below a older ≡ false
+    nobody-older =
+        elim (cases-bool (some-below a older)) [
+          | inr e ↦ e
+          | inl e ↦
+              let found = some-at a older e in
+              let k = found .0 in
+              absurd
+              (both-ways (s .stands (jobs-of (c .seats) (c .held) .mode k x) t)
+              (blocks-old s law (jobs-of (c .seats) (c .held)) a x t k (found .2) .1) (stand k))
+        ]
+
+    nobody-younger : (k : ℕ) → in-way k ≡ false
+    nobody-younger k =
+        elim (cases-bool (in-way k)) [
+          | inr e ↦ e
+          | inl e ↦
+              absurd
+              (both-ways (s .stands (jobs-of (c .seats) (c .held) .mode k x) t)
+              (yields-young s law (jobs-of (c .seats) (c .held)) a x t k e .1) (stand k))
+        ]
+
+    pub unhurt : model words c ≡ model-hands .wound in-way (model words c)
+    unhurt =
+        let last = suc (c .seats .opened) in
+        start in-way (model words c) last (λ k l. nobody-younger k)
+        ∙ all in-way (model words c) last (omega arith) (λ k e. absurd (both-ways (in-way k) (nobody-younger k) e))

@@ -12,10 +12,10 @@ use Rattle.std.specs.Iters.{folded}
 use Rattle.granules.specs.Paths.{among}
 use Rattle.engine.specs.Seats.{place, slot, distinct, all-given, nearer, next-above}
 
-place-here : (x : ℕ) (xs : List ℕ) (k : ℕ) → x ≡ k → place (x ∷ xs) k ≡ 0
+pub place-here : (x : ℕ) (xs : List ℕ) (k : ℕ) → x ≡ k → place (x ∷ xs) k ≡ 0
 place-here x xs k e = let t = eq-eqb x k e in rw (t, place)
 
-place-later : (x : ℕ) (xs : List ℕ) (k : ℕ) → (x ≡ k → ⊥) → place (x ∷ xs) k ≡ suc (place xs k)
+pub place-later : (x : ℕ) (xs : List ℕ) (k : ℕ) → (x ≡ k → ⊥) → place (x ∷ xs) k ≡ suc (place xs k)
 place-later x xs k e = let t = ne-eqb x k e in rw (t, place)
 
 -- a number that stands at i, and at no place before, has its first place there

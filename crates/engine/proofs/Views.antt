@@ -8,7 +8,7 @@ use native.Mathlib.Omega.{arith}
 use lib.Dec.{eqb}
 use lib.ListN.{length, getD, set, replicate}
 use Rattle.std.proofs.shelf.Lists.{getD-set-same, getD-set-other}
-use Rattle.std.proofs.shelf.Tests.{cases-eq, cases-lt, eq-eqb, ne-eqb}
+use Rattle.std.proofs.shelf.Tests.{cases-eq, cases-lt, both-ways, eq-eqb, ne-eqb}
 use Rattle.granules.specs.Paths.{among}
 use Rattle.ledger.specs.declared.job.Status.the-variants.{Ended}
 use Rattle.ledger.specs.Jobs.{is-ended, put, where-so}
@@ -17,12 +17,12 @@ use Rattle.engine.specs.declared.seats.Seats.{Seats}
 use Rattle.engine.specs.Grids.{cell, with-cell}
 use Rattle.engine.specs.Seats.{place, slot, distinct}
 use Rattle.engine.proofs.Grids.{empty}
-use Rattle.engine.proofs.Places.{place-at, place-among, among-place, place-own}
+use Rattle.engine.proofs.Places.{place-at, place-among, among-place, place-own, new-among}
 
-slot-none : (numbers : List ℕ) (k : ℕ) → k ≡ 0 → slot numbers k ≡ length numbers
+pub slot-none : (numbers : List ℕ) (k : ℕ) → k ≡ 0 → slot numbers k ≡ length numbers
 slot-none numbers k e = let t = eq-eqb k 0 e in rw (t, slot)
 
-slot-some : (numbers : List ℕ) (k : ℕ) → (k ≡ 0 → ⊥) → slot numbers k ≡ place numbers k
+pub slot-some : (numbers : List ℕ) (k : ℕ) → (k ≡ 0 → ⊥) → slot numbers k ≡ place numbers k
 slot-some numbers k e = let t = ne-eqb k 0 e in rw (t, slot)
 
 -- a slot of the table has its job's number, which is not 0
@@ -56,6 +56,14 @@ slot-own numbers j k e l =
     let a = slot-number numbers j (omega arith) .0 in
     let b = slot-number numbers k l .0 in
     sym a ∙ ap (λ (i : ℕ). getD numbers i 0) e ∙ b
+
+-- whoever sits in a slot was given its number
+pub seated-given : (seats : Seats) (k : ℕ) → among k (seats .numbers) ≡ true → k ≤ seats .opened
+seated-given seats k e =
+    elim (cases-lt (seats .opened) k) [
+      | inl l ↦ absurd (both-ways (among k (seats .numbers)) (new-among (seats .opened) (seats .numbers) k l (seats .known)) e)
+      | inr l ↦ l
+    ]
 
 -- whoever sits in a slot has not ended
 pub seated-lives : (seats : Seats) (k : ℕ) → slot (seats .numbers) k < 16 → is-ended (getD (seats .states) (slot (seats .numbers) k) Ended) ≡ false

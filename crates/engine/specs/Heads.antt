@@ -15,11 +15,6 @@ abbrev pub tally : List (List ℕ) → ℕ → ℕ → ℕ
 tally [] x m = 0
 tally (row ∷ rows) x m = one (getD row x 0) m + tally rows x m
 
--- The counts added up.
-abbrev pub total : List ℕ → ℕ
-total [] = 0
-total (c ∷ cs) = c + total cs
-
 -- The join of f below n.
 abbrev pub join-below : System → ℕ → (ℕ → ℕ) → ℕ
 join-below s zero f = 0

@@ -30,7 +30,7 @@ impl<S: Shelf> Core<S> {
     }
 
     // Every younger job that is in the way is wounded, the oldest of them first.
-    pub(crate) fn wound_younger<M: ModeSystem>(
+    fn wound_younger<M: ModeSystem>(
         &mut self,
         system: &M,
         asker: u32,
@@ -72,7 +72,7 @@ impl<S: Shelf> Core<S> {
     }
 
     // Whether an older job is in the way.
-    pub(crate) fn is_held_up<M: ModeSystem>(
+    fn is_held_up<M: ModeSystem>(
         &self,
         system: &M,
         asker: u32,
@@ -88,5 +88,29 @@ impl<S: Shelf> Core<S> {
             }
         }
         false
+    }
+
+    // Makes way for a job that asks for a target on a granule: whoever is younger and in the way is wounded. Whether
+    // an older one is in the way.
+    pub(crate) fn make_way<M: ModeSystem>(
+        &mut self,
+        system: &M,
+        asker: u32,
+        granule: usize,
+        target: u8,
+    ) -> bool
+        requires { ⌜ granule < 256 ⌝ }
+        ensures value { λ r. ⌜ r ≡ some-below asker (blocks (M·ModeSystem .meaning) (jobs-of (now (self .entry) .seats) (now (self .entry) .held)) asker granule target) ⌝ }
+        ensures model { λ _. ⌜ model (S·Shelf .words) (now (self .exit)) ≡ model-hands .wound (yields (M·ModeSystem .meaning) (jobs-of (now (self .entry) .seats) (now (self .entry) .held)) asker granule target) (model (S·Shelf .words) (now (self .entry))) ⌝ }
+        ensures numbers { λ _. ⌜ now (self .exit) .seats .numbers ≡ now (self .entry) .seats .numbers ⌝ }
+    {
+        // What stands with the group mode stands with each mode held: no job need be looked at.
+        let row = self.held.row(system, granule);
+        if system.stands(row.group, target) {
+            return false;
+        }
+        let waits = self.is_held_up(system, asker, granule, target);
+        self.wound_younger(system, asker, granule, target);
+        waits
     }
 }

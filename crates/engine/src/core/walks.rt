@@ -79,9 +79,7 @@ impl<S: Shelf> Core<S> {
         if target == mode {
             return Step::On;
         }
-        let stopped = self.is_held_up(system, walker.job, granule, target);
-        self.wound_younger(system, walker.job, granule, target);
-        if stopped {
+        if self.make_way(system, walker.job, granule, target) {
             return Step::Stopped;
         }
         self.raise(walker.job, granule, target);

@@ -7,8 +7,8 @@ use Rattle.engine.specs.Views.{model}
 use Rattle.engine.proofs.Steps.{stopped, raised}
 use Rattle.engine.proofs.core.Core.step.Needs as need
 
-pub returns-then-stopped : need.returns-then-stopped
-returns-then-stopped g c =
+pub returns-then-make-way : need.returns-then-make-way
+returns-then-make-way g c =
     let s = g .M·ModeSystem .meaning in
     let start = c .args .self .now in
     let here = c .slot-of-slot .ensures .value in
@@ -22,8 +22,8 @@ returns-then-stopped g c =
     record {
       walk =
           stopped s (model (g .S·Shelf .words) start) (c .args .walker) (c .args .granule) mode (c .target-target .result) has-mode (c .target-target .ensures .value) short (c .if-target-mode .left)
-          (model (g .S·Shelf .words) (c .wound-younger .last .self)) (sym (c .is-held-up-stopped .ensures .value) ∙ c .if-stopped .taken) (c .wound-younger .ensures .model);
-      numbers = c .wound-younger .ensures .numbers;
+          (model (g .S·Shelf .words) (c .make-way .last .self)) (sym (c .if-make-way .ensures tt .value)) (c .make-way .ensures .model);
+      numbers = c .make-way .ensures .numbers;
     }
 
 pub returns : need.returns
@@ -41,7 +41,7 @@ returns g c =
     record {
       walk =
           raised s (model (g .S·Shelf .words) start) (c .args .walker) (c .args .granule) mode (c .target-target .result) has-mode (c .target-target .ensures .value) short (c .if-target-mode .left)
-          (model (g .S·Shelf .words) (c .wound-younger .last .self)) (model (g .S·Shelf .words) (c .raise .last .self))
-          (sym (c .is-held-up-stopped .ensures .value) ∙ c .if-stopped .left) (c .wound-younger .ensures .model) (c .raise .ensures .model);
-      numbers = c .raise .ensures .numbers ∙ c .wound-younger .ensures .numbers;
+          (model (g .S·Shelf .words) (c .make-way .last .self)) (model (g .S·Shelf .words) (c .raise .last .self))
+          (sym (c .if-make-way .ensures tt .value)) (c .make-way .ensures .model) (c .raise .ensures .model);
+      numbers = c .raise .ensures .numbers ∙ c .make-way .ensures .numbers;
     }
