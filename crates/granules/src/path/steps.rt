@@ -44,6 +44,15 @@ impl Path {
         place < self.len
     }
 
+    // The granule kept at a place that the path has.
+    fn kept(&self, place: usize) -> usize
+        requires { ⌜ place < now self .len ⌝ }
+        ensures value { λ r. ⌜ r ≡ getD (now (self .entry) .granules) place 0 ⌝ }
+        ensures bound { λ r. ⌜ r < 256 ⌝ }
+    {
+        self.granules[place] as usize
+    }
+
     // The granule at a place, counted from the root; past the end it is the root.
     pub fn at(&self, place: usize) -> usize
         ensures value { λ r. ⌜ r ≡ getD (steps (now (self .entry))) place 0 ⌝ }
@@ -52,6 +61,6 @@ impl Path {
         if !self.has(place) {
             return 0;
         }
-        self.granules[place] as usize
+        self.kept(place)
     }
 }

@@ -1,8 +1,8 @@
 // Questions to a tree. A granule that the tree does not have counts as a child of the root, and is no record.
 ghost use mathlib.Core.Bool.{true, cond};
-ghost use mathlib.Core.List.{[], _∷_};
+ghost use mathlib.Core.List.{[], _∷_, _++_};
 ghost use mathlib.Core.Path.{_≡_};
-ghost use Prim.Native.Nat.{ℕ, _≤_, _<_};
+ghost use Prim.Native.Nat.{ℕ, _+_, _≤_, _<_};
 ghost use lib.Dec.{ltb};
 ghost use lib.ListN.{length};
 ghost use Rattle.granules.specs.Paths.{parent, path, beneath, settled, is-record, record-beneath, records-beneath};
@@ -21,6 +21,31 @@ fn settled(above: usize, granule: usize) -> Option<bool>
     } else {
         None
     }
+}
+
+// The path of a granule, from that of its parent.
+fn extended(above: Path, granule: usize) -> Path
+    requires room { ⌜ above .len < 8 ⌝ }
+    requires byte { ⌜ granule < 256 ⌝ }
+    ensures value { λ r. ⌜ steps r ≡ steps above ++ granule ∷ [] ⌝ }
+{
+    above.then(granule as u8)
+}
+
+// Where a span of one granule alone ends.
+fn end_after(granule: usize) -> usize
+    requires { ⌜ granule < 256 ⌝ }
+    ensures value { λ r. ⌜ r ≡ granule + 1 ⌝ }
+{
+    granule + 1
+}
+
+// A count, with one more if that is to be counted.
+fn counted(count: usize, counts: bool) -> usize
+    requires { ⌜ count < 256 ⌝ }
+    ensures value { λ r. ⌜ r ≡ count + cond counts 1 0 ⌝ }
+{
+    if counts { count + 1 } else { count }
 }
 
 impl Tree {
@@ -71,7 +96,7 @@ impl Tree {
         if granule == 0 || !self.has(granule) {
             return Path::root();
         }
-        self.path(self.parent(granule)).then(granule as u8)
+        extended(self.path(self.parent(granule)), granule)
     }
 
     // Where records beneath a granule can lie: from the first number up to the second, which is not among them.
@@ -81,7 +106,7 @@ impl Tree {
         ensures bound { λ r. ⌜ r .1 ≤ length (table (now (self .entry))) ⌝ }
     {
         if self.is_record(granule) {
-            (granule, granule + 1)
+            (granule, end_after(granule))
         } else {
             (granule, self.granules)
         }
@@ -103,9 +128,7 @@ impl Tree {
         let (first, end) = self.span(granule);
         let mut count = 0;
         for g in first..end {
-            if self.is_record_beneath(granule, g) {
-                count += 1;
-            }
+            count = counted(count, self.is_record_beneath(granule, g));
         }
         count
     }

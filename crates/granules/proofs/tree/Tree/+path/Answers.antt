@@ -35,19 +35,20 @@ path-requires t c κs =
     let s = c .args .self .now in
     (omega (arith, tree-falls s (c .args .granule) (omega arith), c .parent .ensures .value), tt)
 
-pub then-requires : need.then-requires
-then-requires t c κs =
+pub extended-requires : need.extended-requires
+extended-requires t c κs =
     let s = c .args .self .now in
-    let room = path-room (table s) (tree-falls s) (s .shallow) (c .args .granule) (omega arith) (ltb-true (c .args .granule) (length (table s)) (sym (c .if-not-has .ensures tt .value))) in
+    let inside = ltb-true (c .args .granule) (length (table s)) (sym (c .if-not-has .ensures tt .value)) in
+    let room = path-room (table s) (tree-falls s) (s .shallow) (c .args .granule) (omega arith) inside in
     let up = path-above s (c .args .granule) (c .parent .result) (steps (c .path .result)) (omega arith) (sym (c .if-not-has .ensures tt .value)) (c .parent .ensures .value) (c .path .ensures .value) in
-    omega (arith, long (c .path .result), ap length up)
+    record { room = omega (arith, long (c .path .result), ap length up); byte = omega (arith, size s, s .few) }
 
 pub returns : need.returns
 returns t c =
     let s = c .args .self .now in
     record {
       value =
-          c .then .ensures .value
+          c .extended .ensures .value
           ∙ ap (λ (xs : List ℕ). xs ++ c .args .granule ∷ [])
           (path-above s (c .args .granule) (c .parent .result) (steps (c .path .result)) (omega arith) (sym (c .if-not-has .ensures tt .value)) (c .parent .ensures .value) (c .path .ensures .value))
           ∙ sym (path-step (table s) (tree-falls s) (c .args .granule) (omega arith))

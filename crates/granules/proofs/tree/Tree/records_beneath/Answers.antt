@@ -1,9 +1,8 @@
-use mathlib.Core.Path.{_≡_, sym, _∙_, ap}
-use mathlib.Core.Bool.{cond}
+use mathlib.Core.Path.{_≡_, sym, _∙_, ap₂}
+use mathlib.Core.Bool.{Bool, cond}
 use native.Mathlib.Omega.{arith}
 use Prim.Native.Nat.{ℕ, _+_}
 use lib.ListN.{length}
-use Rattle.std.proofs.shelf.Tests.{cond-true, cond-false}
 use Rattle.granules.specs.Below.{count-below}
 use Rattle.granules.specs.Paths.{record-beneath}
 use Rattle.granules.specs.Trees.{table}
@@ -11,7 +10,6 @@ use Rattle.granules.proofs.Below.{sum-none, sum-same, sum-more, count-le}
 use Rattle.granules.proofs.Climbs.{records-some}
 use Rattle.granules.proofs.Kept.{size, tree-falls}
 use Rattle.granules.proofs.tree.Tree.records_beneath.Needs as need
-use Rattle.granules.proofs.tree.Tree.records_beneath.Needs.{then-is-record-beneath, else-is-record-beneath}
 
 pub loop-g-holds : need.loop-g-holds
 loop-g-holds c =
@@ -20,10 +18,11 @@ loop-g-holds c =
     (sum-none (c .span-first .result .0) (record-beneath (table t) (c .args .granule)) (λ _. 1)
     (λ k l b. omega (arith, c .span-first .ensures .all k b .0)))
 
-pub add-count : need.add-count
-add-count c =
+pub counted-count-requires : need.counted-count-requires
+counted-count-requires c κs =
     let t = c .args .self .now in
-    omega (arith, c .loop-g .inv, count-le (c .loop-g .g) (record-beneath (table t) (c .args .granule)))
+    let below = count-le (c .loop-g .g) (record-beneath (table t) (c .args .granule)) in
+    omega (arith, c .loop-g .inv, c .span-first .ensures .bound, size t, t .few)
 
 pub loop-g-again : need.loop-g-again
 loop-g-again c =
@@ -31,15 +30,9 @@ loop-g-again c =
     let g = c .loop-g .g in
     let test = record-beneath (table t) (c .args .granule) in
     let more = sum-more g test (λ _. 1) in
-    let before = c .loop-g .inv in
-    elim (c .if-is-record-beneath .came) [
-      | then-is-record-beneath w ↦
-          let e : _≡_ {A = ℕ} (cond (test g) 1 0) 1 = cond-true (test g) 1 0 (sym (w .if-is-record-beneath .ensures tt .value)) in
-          omega (arith, w .count-is)
-      | else-is-record-beneath w ↦
-          let e : _≡_ {A = ℕ} (cond (test g) 1 0) 0 = cond-false (test g) 1 0 (sym (w .if-is-record-beneath .ensures tt .value)) in
-          omega (arith, w .count-is)
-    ]
+    c .counted-count .ensures .value
+    ∙ ap₂ (λ (n : ℕ) (b : Bool). n + cond b 1 0) (c .loop-g .inv) (c .is-record-beneath .ensures .value)
+    ∙ sym more
 
 pub returns : need.returns
 returns c =
