@@ -1,48 +1,50 @@
 -- What the events of a slot leave of a state.
-use mathlib.Core.Path.{_≡_, refl, sym, _∙_, ap, ap₂}
+use mathlib.Core.Path.{_≡_, refl, sym, _∙_, ap, subst}
 use mathlib.Core.Logic.{inl, inr}
 use mathlib.Core.Bool.{Bool, true, false}
 use mathlib.Core.List.{List}
 use Prim.Native.Nat.{ℕ, _<_}
 use native.Mathlib.Omega.{arith}
-use lib.Dec.{eqb}
+use lib.Dec.{eqb, lit<}
 use lib.ListN.{length, getD, set}
 use Rattle.std.proofs.shelf.Lists.{getD-set-same, getD-set-other}
-use Rattle.std.proofs.shelf.Tests.{cases-eq, both-ways}
+use Rattle.std.proofs.shelf.Tests.{cases-eq, both-ways, ltb-true}
 use Rattle.operations.specs.declared.operation.Operation.{Operation}
 use Rattle.ledger.specs.declared.job.Status.{Status}
 use Rattle.ledger.specs.declared.job.Status.the-variants.{Working, Waiting, Wounded, Ended}
 use Rattle.ledger.specs.Jobs.{is-ended, is-open, is-wounded}
+use Rattle.ledger.specs.Ledgers.{wanted}
 use Rattle.engine.specs.declared.slot.Event.{Event}
 use Rattle.engine.specs.declared.slot.Event.the-variants.{Open, Through, Stop, Wound, Reopen, End}
 use Rattle.engine.specs.Slots.{moved, in-seat}
 
--- whoever keeps the seat ends no job and opens none
-pub stays-seated : (st : Status) (e : Event) → in-seat e ≡ true → is-ended (moved st e) ≡ is-ended st
-stays-seated Working Through h = refl
-stays-seated Working (Stop o) h = refl
-stays-seated Working Wound h = refl
-stays-seated Working Reopen h = refl
-stays-seated Working Open h = absurd (both-ways false refl h)
-stays-seated Working End h = absurd (both-ways false refl h)
-stays-seated (Waiting p) Through h = refl
-stays-seated (Waiting p) (Stop o) h = refl
-stays-seated (Waiting p) Wound h = refl
-stays-seated (Waiting p) Reopen h = refl
-stays-seated (Waiting p) Open h = absurd (both-ways false refl h)
-stays-seated (Waiting p) End h = absurd (both-ways false refl h)
-stays-seated Wounded Through h = refl
-stays-seated Wounded (Stop o) h = refl
-stays-seated Wounded Wound h = refl
-stays-seated Wounded Reopen h = refl
-stays-seated Wounded Open h = absurd (both-ways false refl h)
-stays-seated Wounded End h = absurd (both-ways false refl h)
-stays-seated Ended Through h = refl
-stays-seated Ended (Stop o) h = refl
-stays-seated Ended Wound h = refl
-stays-seated Ended Reopen h = refl
-stays-seated Ended Open h = absurd (both-ways false refl h)
-stays-seated Ended End h = absurd (both-ways false refl h)
+-- Whoever keeps the seat ends no job and opens none, and waits only for what is near.
+pub stays-seated :
+    (st : Status) (e : Event) → wanted st .granule < 256 → in-seat e ≡ true → (is-ended (moved st e) ≡ is-ended st) × (wanted (moved st e) .granule < 256)
+stays-seated Working Through n h = (refl, lit< tt)
+stays-seated Working (Stop o) n h = (refl, ltb-true (o .granule) 256 h)
+stays-seated Working Wound n h = (refl, lit< tt)
+stays-seated Working Reopen n h = (refl, lit< tt)
+stays-seated Working Open n h = absurd (both-ways false refl h)
+stays-seated Working End n h = absurd (both-ways false refl h)
+stays-seated (Waiting p) Through n h = (refl, lit< tt)
+stays-seated (Waiting p) (Stop o) n h = (refl, ltb-true (o .granule) 256 h)
+stays-seated (Waiting p) Wound n h = (refl, lit< tt)
+stays-seated (Waiting p) Reopen n h = (refl, n)
+stays-seated (Waiting p) Open n h = absurd (both-ways false refl h)
+stays-seated (Waiting p) End n h = absurd (both-ways false refl h)
+stays-seated Wounded Through n h = (refl, lit< tt)
+stays-seated Wounded (Stop o) n h = (refl, lit< tt)
+stays-seated Wounded Wound n h = (refl, lit< tt)
+stays-seated Wounded Reopen n h = (refl, lit< tt)
+stays-seated Wounded Open n h = absurd (both-ways false refl h)
+stays-seated Wounded End n h = absurd (both-ways false refl h)
+stays-seated Ended Through n h = (refl, lit< tt)
+stays-seated Ended (Stop o) n h = (refl, lit< tt)
+stays-seated Ended Wound n h = (refl, lit< tt)
+stays-seated Ended Reopen n h = (refl, lit< tt)
+stays-seated Ended Open n h = absurd (both-ways false refl h)
+stays-seated Ended End n h = absurd (both-ways false refl h)
 
 pub opens : (st : Status) → is-ended st ≡ true → moved st Open ≡ Working
 opens Working h = absurd (both-ways false refl h)
@@ -107,4 +109,14 @@ free-turn numbers states s st m h e i =
           ∙ sym (ap is-ended (getD-set-same states s st Ended m))
           ∙ ap (λ (j : ℕ). is-ended (getD (set states s st) j Ended)) (sym z)
       | inr z ↦ h i ∙ sym (ap is-ended (getD-set-other states s i st Ended z))
+    ]
+
+-- What is waited for stays near when a state is written.
+pub near-set :
+    (states : List Status) (s : ℕ) (st : Status) → s < length states → ((i : ℕ) → wanted (getD states i Ended) .granule < 256)
+    → wanted st .granule < 256 → (i : ℕ) → wanted (getD (set states s st) i Ended) .granule < 256
+near-set states s st l h n i =
+    elim (cases-eq i s) [
+      | inl z ↦ subst (λ (x : Status). wanted x .granule < 256) (sym (ap (λ (j : ℕ). getD (set states s st) j Ended) z ∙ getD-set-same states s st Ended l)) n
+      | inr z ↦ subst (λ (x : Status). wanted x .granule < 256) (sym (getD-set-other states s i st Ended z)) (h i)
     ]

@@ -1,5 +1,6 @@
 -- How the state of a job moves with what happens to it.
 use mathlib.Core.Bool.{Bool, true, false}
+use lib.Dec.{ltb}
 use Rattle.operations.specs.declared.operation.Operation.{Operation}
 use Rattle.ledger.specs.declared.job.Status.{Status}
 use Rattle.ledger.specs.declared.job.Status.the-variants.{Working, Waiting, Wounded, Ended}
@@ -33,11 +34,12 @@ moved Ended Wound = Ended
 moved Ended Reopen = Ended
 moved Ended End = Ended
 
--- What happens to a job while it sits: all but sitting down and getting up.
+-- What happens to a job while it sits: all but sitting down and getting up. It waits only for what is on one of the 256
+-- granules.
 abbrev pub in-seat : Event → Bool
 in-seat Open = false
 in-seat Through = true
-in-seat (Stop o) = true
+in-seat (Stop o) = ltb (o .granule) 256
 in-seat Wound = true
 in-seat Reopen = true
 in-seat End = false

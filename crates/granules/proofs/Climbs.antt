@@ -87,11 +87,15 @@ path-long ps f =
     omega arith)
 
 -- in a shallow table a path that goes on has room for one more
-pub path-room : (ps : List ℕ) → Falls ps → shallow ps ≡ true → (g : ℕ) → 0 < g → g < length ps → length (path ps (parent ps g)) < 8
-path-room ps f t g h l =
-    let b = leb-true (length (path ps g)) 8 (each-at (length ps) (λ x. leb (length (path ps x)) 8) t g l) in
-    let e = path-more ps f g h in
-    omega arith
+pub path-room : (ps : List ℕ) → Falls ps → shallow ps ≡ true → (g : ℕ) → 0 < g → length (path ps (parent ps g)) < 8
+path-room ps f t g h =
+    elim (cases-lt g (length ps)) [
+      | inl l ↦
+          let b = leb-true (length (path ps g)) 8 (each-at (length ps) (λ x. leb (length (path ps x)) 8) t g l) in
+          let e = path-more ps f g h in
+          omega arith
+      | inr l ↦ omega (arith, ap (λ (x : ℕ). length (path ps x)) (getD-past ps g 0 l), ap length (path-root ps))
+    ]
 
 pub among-push : (g x : ℕ) (xs : List ℕ) → among g (xs ++ x ∷ []) ≡ (among g xs || eqb g x)
 among-push g x [] = elim (eqb g x) as (λ b. (b || false) ≡ b) [ true ↦ refl | false ↦ refl ]

@@ -89,11 +89,11 @@ impl Tree {
         }
     }
 
-    // The granules from the root down to one; of a granule that the tree does not have, those to the root.
+    // The granules from the root down to one; for a number beyond 255, which is no granule's, the root alone.
     pub fn path(&self, granule: usize) -> Path
-        ensures value { λ r. ⌜ steps r ≡ cond (ltb granule (length (table (now (self .entry))))) (path (table (now (self .entry))) granule) (0 ∷ []) ⌝ }
+        ensures value { λ r. ⌜ steps r ≡ cond (ltb granule 256) (path (table (now (self .entry))) granule) (0 ∷ []) ⌝ }
     {
-        if granule == 0 || !self.has(granule) {
+        if granule == 0 || granule > 255 {
             return Path::root();
         }
         extended(self.path(self.parent(granule)), granule)

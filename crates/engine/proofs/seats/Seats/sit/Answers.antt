@@ -1,14 +1,17 @@
-use mathlib.Core.Path.{_≡_, refl, sym, _∙_, ap}
+use mathlib.Core.Path.{_≡_, refl, sym, _∙_, ap, subst}
 use mathlib.Core.Bool.{true}
 use native.Mathlib.Omega.{arith}
+use Prim.Native.Nat.{_<_}
+use lib.Dec.{lit<}
 use lib.ListN.{getD, set}
 use Rattle.ledger.specs.declared.job.Status.{Status}
 use Rattle.ledger.specs.declared.job.Status.the-variants.{Ended}
 use Rattle.ledger.specs.Jobs.{is-ended}
+use Rattle.ledger.specs.Ledgers.{wanted}
 use Rattle.std.proofs.shelf.Lists.{length-set}
 use Rattle.std.proofs.shelf.Tests.{eq-eqb, ne-eqb}
 use Rattle.engine.proofs.Places.{distinct-new, given-set, given-more}
-use Rattle.engine.proofs.Slots.{opens, free-set}
+use Rattle.engine.proofs.Slots.{opens, free-set, near-set}
 use Rattle.engine.proofs.seats.Seats.sit.Needs as need
 
 pub ghost-self : need.ghost-self
@@ -25,7 +28,11 @@ ghost-self c =
           (
             free-set (t .numbers) (t .states) _ _ _ (omega (arith, t .full .0, c .pre .within)) (omega (arith, t .full .1, c .pre .within)) (t .free)
                 (ne-eqb _ 0 (λ (z : _ ≡ 0). omega arith) ∙ sym (ap is-ended (c .next .ensures .value ∙ opens (getD (t .states) (c .args .slot) Ended) ended))),
-            tt,
+            (
+              near-set (t .states) _ _ (omega (arith, t .full .1, c .pre .within)) (t .near)
+                  (subst (λ (x : Status). wanted x .granule < 256) (sym (c .next .ensures .value ∙ opens (getD (t .states) (c .args .slot) Ended) ended)) (lit< tt)),
+              tt,
+            ),
           ),
         ),
       ),

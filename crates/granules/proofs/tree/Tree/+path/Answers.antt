@@ -1,17 +1,14 @@
 use mathlib.Core.Path.{_≡_, sym, _∙_, ap}
-use mathlib.Core.Bool.{cond}
 use mathlib.Core.List.{List, [], _∷_, _++_}
 use native.Mathlib.Omega.{arith}
 use Prim.Native.Nat.{ℕ, _<_}
-use lib.Dec.{ltb}
 use lib.ListN.{length}
-use Rattle.std.proofs.shelf.Tests.{lt-ltb, ltb-true}
 use Rattle.granules.specs.Paths.{path, parent}
 use Rattle.granules.specs.Trees.{table, steps}
 use Rattle.granules.proofs.Climbs.{path-root, path-step, path-room}
-use Rattle.granules.proofs.Kept.{size, long, tree-falls, path-inside, path-outside, path-above}
+use Rattle.granules.proofs.Kept.{long, tree-falls, path-inside, path-outside, path-above}
 use Rattle.granules.proofs.tree.Tree.+path.Needs as need
-use Rattle.granules.proofs.tree.Tree.+path.Needs.{then-granule-eq0·by·then-granule-eq0, then-granule-eq0·by·else-granule-eq0·then-not-has}
+use Rattle.granules.proofs.tree.Tree.+path.Needs.{then-granule-eq0·by·then-granule-eq0, then-granule-eq0·by·else-granule-eq0·then-granule-gt255}
 
 pub returns-then-granule-eq0 : need.returns-then-granule-eq0
 returns-then-granule-eq0 t c =
@@ -24,10 +21,10 @@ returns-then-granule-eq0 t c =
                 root
                 ∙ sym (path-root (table s))
                 ∙ ap (path (table s)) (sym (w .if-granule-eq0 .taken))
-                ∙ sym (path-inside s (c .args .granule) (lt-ltb (c .args .granule) (length (table s)) (omega (arith, w .if-granule-eq0 .taken, s .some, size s))));
+                ∙ sym (path-inside s (c .args .granule) (omega (arith, w .if-granule-eq0 .taken)));
           }
-      | then-granule-eq0·by·else-granule-eq0·then-not-has w ↦
-          record { value = root ∙ sym (path-outside s (c .args .granule) (sym (w .if-not-has .ensures tt .value))) }
+      | then-granule-eq0·by·else-granule-eq0·then-granule-gt255 w ↦
+          record { value = root ∙ sym (path-outside s (c .args .granule) (omega (arith, w .if-granule-gt255 .taken))) }
     ]
 
 pub path-requires : need.path-requires
@@ -38,10 +35,9 @@ path-requires t c κs =
 pub extended-requires : need.extended-requires
 extended-requires t c κs =
     let s = c .args .self .now in
-    let inside = ltb-true (c .args .granule) (length (table s)) (sym (c .if-not-has .ensures tt .value)) in
-    let room = path-room (table s) (tree-falls s) (s .shallow) (c .args .granule) (omega arith) inside in
-    let up = path-above s (c .args .granule) (c .parent .result) (steps (c .path .result)) (omega arith) (sym (c .if-not-has .ensures tt .value)) (c .parent .ensures .value) (c .path .ensures .value) in
-    record { room = omega (arith, long (c .path .result), ap length up); byte = omega (arith, size s, s .few) }
+    let room = path-room (table s) (tree-falls s) (s .shallow) (c .args .granule) (omega arith) in
+    let up = path-above s (c .args .granule) (c .parent .result) (steps (c .path .result)) (omega arith) (omega arith) (c .parent .ensures .value) (c .path .ensures .value) in
+    record { room = omega (arith, long (c .path .result), ap length up); byte = omega arith }
 
 pub returns : need.returns
 returns t c =
@@ -50,7 +46,7 @@ returns t c =
       value =
           c .extended .ensures .value
           ∙ ap (λ (xs : List ℕ). xs ++ c .args .granule ∷ [])
-          (path-above s (c .args .granule) (c .parent .result) (steps (c .path .result)) (omega arith) (sym (c .if-not-has .ensures tt .value)) (c .parent .ensures .value) (c .path .ensures .value))
+          (path-above s (c .args .granule) (c .parent .result) (steps (c .path .result)) (omega arith) (omega arith) (c .parent .ensures .value) (c .path .ensures .value))
           ∙ sym (path-step (table s) (tree-falls s) (c .args .granule) (omega arith))
-          ∙ sym (path-inside s (c .args .granule) (sym (c .if-not-has .ensures tt .value)));
+          ∙ sym (path-inside s (c .args .granule) (omega arith));
     }
