@@ -11,3 +11,6 @@ pub mod Meetings
 pub mod Heads
 pub mod Raises
 pub mod Steps
+pub mod Sweeps
+pub mod Notes
+pub mod Tries

@@ -95,7 +95,7 @@ view-set rows d numbers k v e l j =
     ]
 
 -- The same, cell by cell.
-view-row :
+pub view-row :
     {A : Type 0} (rows : List (List A)) (d : A) (numbers : List ℕ) (k : ℕ) (row : List A) → length rows ≡ length numbers → slot numbers k < length numbers
     → (j x : ℕ) → cell d (set rows (slot numbers k) row) (slot numbers j) x ≡ put {A = ℕ → A} k (λ y. getD row y d) (λ i y. cell d rows (slot numbers i) y) j x
 view-row {A} rows d numbers k row e l j x = ap (λ (r : List A). getD r x d) (view-set rows [] numbers k row e l j) ∙ at-row

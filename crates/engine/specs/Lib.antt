@@ -6,3 +6,5 @@ pub mod Views
 pub mod Wounds
 pub mod Meetings
 pub mod Steps
+pub mod Notes
+pub mod Turns

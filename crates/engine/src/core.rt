@@ -11,6 +11,7 @@ use crate::seats::Seats;
 
 pub mod meets;
 pub mod takes;
+pub mod tries;
 pub mod walks;
 
 // A free slot holds nothing and has no notes, at any time.

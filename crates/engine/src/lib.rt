@@ -10,3 +10,4 @@ pub mod judge;
 pub mod noted;
 pub mod seats;
 pub mod slot;
+pub mod turn;

@@ -6,6 +6,7 @@ ghost use Rattle.engine.specs.Grids.{all-long};
 use ledger::Note;
 
 pub mod cells;
+pub mod sweeps;
 
 // A row for each of the 16 slots, with a cell for each of 256 granules.
 #[derive(Clone, Copy)]

@@ -28,10 +28,10 @@ model-of l ws notes = record { jobs = l .jobs; words = ws; notes = notes }
 
 -- the four ways of one step of a walk
 module _ {S : Type 0} (h : Hands S) (s : System) (k : Kind) (g a x : ℕ) (xs : List ℕ) (st : S) where
-  walk-covered : has s (h .jobs st .mode a x) (s .full k) ≡ true → walk h s k g a (x ∷ xs) st ≡ record { left = st; complete = true }
+  pub walk-covered : has s (h .jobs st .mode a x) (s .full k) ≡ true → walk h s k g a (x ∷ xs) st ≡ record { left = st; complete = true }
   walk-covered e = rw (e, walk)
 
-  walk-same :
+  pub walk-same :
       has s (h .jobs st .mode a x) (s .full k) ≡ false → eqb (target s k g x (h .jobs st .mode a x)) (h .jobs st .mode a x) ≡ true
       → walk h s k g a (x ∷ xs) st ≡ walk h s k g a xs st
   walk-same e f = rw (e, f, walk)
