@@ -50,13 +50,13 @@ pub own-cell : {A : Type 0} (d : A) (rows : List (List A)) (s : ℕ) (row : List
 own-cell {A} d rows s row i x e l =
     ap (λ (j : ℕ). cell d (set rows s row) j x) e ∙ ap (λ (r : List A). getD r x d) (getD-set-same rows s row [] l)
 
--- What holds of an empty cell, and of some slots, still holds of them when a slot is wiped.
+-- What holds of an empty cell, and of some other slots, holds of them and of a slot that is wiped.
 pub wiped-stays :
-    {A : Type 0} (d : A) (rows : List (List A)) (s : ℕ) (P : A → Type 0) (Q : ℕ → Type 0) → P d → ((i x : ℕ) → Q i → P (cell d rows i x))
+    {A : Type 0} (d : A) (rows : List (List A)) (s : ℕ) (P : A → Type 0) (Q : ℕ → Type 0) → P d → ((i x : ℕ) → (i ≡ s → ⊥) → Q i → P (cell d rows i x))
     → (i x : ℕ) → Q i → P (cell d (set rows s (replicate 256 d)) i x)
 wiped-stays {A} d rows s P Q p h i x q =
     elim (cases-eq i s) [
-      | inr e ↦ subst P (sym (other-cell d rows s (replicate 256 d) i x e)) (h i x q)
+      | inr e ↦ subst P (sym (other-cell d rows s (replicate 256 d) i x e)) (h i x e q)
       | inl e ↦
           elim (cases-lt s (length rows)) [
             | inl l ↦ subst P (sym (own-cell d rows s (replicate 256 d) i x e l ∙ empty 256 d x)) p

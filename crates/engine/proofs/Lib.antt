@@ -14,3 +14,4 @@ pub mod Steps
 pub mod Sweeps
 pub mod Notes
 pub mod Tries
+pub mod Ends

@@ -7,6 +7,7 @@ use Prim.Native.Nat.{ℕ, zero, suc, _+_, _<_, _≤_}
 use native.Mathlib.Omega.{arith}
 use lib.Dec.{eqb, ltb, leb}
 use lib.ListN.{length, getD, set}
+use Rattle.std.proofs.shelf.Lists.{getD-past}
 use Rattle.std.proofs.shelf.Tests.{cases-eq, cases-lt, cases-bool, and-parts, and-left, and-right, cond-true, cond-false, lt-ltb, le-ltb, and-from, or-cases, or-left, or-right, or-parts, or-from, both-ways, not-true, not-from-false, eq-eqb, ne-eqb, eqb-true, le-leb, leb-true}
 use Rattle.std.specs.Iters.{folded}
 use Rattle.granules.specs.Paths.{among}
@@ -260,3 +261,52 @@ place-own (x ∷ xs) (suc i) l e d =
                 (ap (λ (k : ℕ). among k xs) z ∙ among-at xs i (omega arith))
           ])
     ]
+
+-- a number written at a place: the first places of others stay
+pub place-set-other :
+    (xs : List ℕ) (i v k : ℕ) → (k ≡ v → ⊥) → (k ≡ getD xs i 0 → ⊥) → place (set xs i v) k ≡ place xs k
+place-set-other [] i v k d e = refl
+place-set-other (x ∷ xs) zero v k d e =
+    place-later v xs k (λ (z : v ≡ k). d (sym z)) ∙ sym (place-later x xs k (λ (z : x ≡ k). e (sym z)))
+place-set-other (x ∷ xs) (suc i) v k d e =
+    elim (cases-eq x k) [
+      | inl z ↦ place-here x (set xs i v) k z ∙ sym (place-here x xs k z)
+      | inr z ↦ place-later x (set xs i v) k z ∙ ap suc (place-set-other xs i v k d e) ∙ sym (place-later x xs k z)
+    ]
+
+-- and a new number has its first place there
+pub place-set-new : (xs : List ℕ) (i v : ℕ) → i < length xs → among v xs ≡ false → place (set xs i v) v ≡ i
+place-set-new [] i v l e = absurd (omega arith)
+place-set-new (x ∷ xs) zero v l e = place-here v xs v refl
+place-set-new (x ∷ xs) (suc i) v l e =
+    let p = or-parts (eqb v x) (among v xs) e in
+    place-later x (set xs i v) v (λ (z : x ≡ v). both-ways (eqb v x) (p .0) (eq-eqb v x (sym z)))
+    ∙ ap suc (place-set-new xs i v (omega arith) (p .1))
+
+-- a number whose only place is written over is gone
+pub among-gone : (xs : List ℕ) (i k : ℕ) → (k ≡ 0 → ⊥) → distinct xs ≡ true → getD xs i 0 ≡ k → among k (set xs i 0) ≡ false
+among-gone [] i k d a e = refl
+among-gone (x ∷ xs) zero k d a e =
+    let p = and-parts (eqb x 0 || not (among x xs)) (distinct xs) a in
+    or-from (eqb k 0) (among k xs) (ne-eqb k 0 d)
+    (elim (or-cases (eqb x 0) (not (among x xs)) (p .0)) [
+      | inl z ↦ absurd (d (sym e ∙ eqb-true x 0 z))
+      | inr z ↦ ap (λ (y : ℕ). among y xs) (sym e) ∙ not-true (among x xs) z
+    ])
+among-gone (x ∷ xs) (suc i) k d a e =
+    let p = and-parts (eqb x 0 || not (among x xs)) (distinct xs) a in
+    or-from (eqb k x) (among k (set xs i 0))
+    (ne-eqb k x
+    (λ (z : k ≡ x).
+    elim (or-cases (eqb x 0) (not (among x xs)) (p .0)) [
+      | inl y ↦ d (z ∙ eqb-true x 0 y)
+      | inr y ↦ both-ways (among x xs) (not-true (among x xs) y) (ap (λ (w : ℕ). among w xs) (sym (e ∙ z)) ∙ found xs i (λ q. d (sym e ∙ q)))
+    ]))
+    (among-gone xs i k d (p .1) e)
+  where
+    found : (ys : List ℕ) (j : ℕ) → (getD ys j 0 ≡ 0 → ⊥) → among (getD ys j 0) ys ≡ true
+    found ys j some =
+        elim (cases-lt j (length ys)) [
+          | inl l ↦ among-at ys j l
+          | inr l ↦ absurd (some (getD-past ys j 0 l))
+        ]

@@ -64,6 +64,12 @@ wounds (Waiting p) h = refl
 wounds Wounded h = refl
 wounds Ended h = absurd (both-ways true h refl)
 
+pub reopens : (st : Status) → is-wounded st ≡ true → moved st Reopen ≡ Working
+reopens Working h = refl
+reopens (Waiting p) h = absurd (both-ways false refl h)
+reopens Wounded h = refl
+reopens Ended h = absurd (both-ways false refl h)
+
 pub goes-through : (st : Status) → is-open st ≡ true → moved st Through ≡ Working
 goes-through Working h = refl
 goes-through (Waiting p) h = refl

@@ -7,4 +7,5 @@ pub mod Wounds
 pub mod Meetings
 pub mod Steps
 pub mod Notes
+pub mod Ends
 pub mod Turns

@@ -9,6 +9,7 @@ use crate::held::Held;
 use crate::noted::Noted;
 use crate::seats::Seats;
 
+pub mod ends;
 pub mod meets;
 pub mod takes;
 pub mod tries;

@@ -32,7 +32,7 @@ impl<S: Shelf> Core<S> {
     }
 
     // The words with the work of the job in a slot taken back.
-    fn take_back(&mut self, slot: usize)
+    pub(super) fn take_back(&mut self, slot: usize)
         requires { ⌜ slot < 16 ⌝ }
         ensures words { λ _. ⌜ S·Shelf .words (now (self .exit) .shelf) ≡ taken-back (cell Nothing (now (self .entry) .noted .rows) slot) (S·Shelf .words (now (self .entry) .shelf)) ⌝ }
         ensures seats { λ _. ⌜ now (self .exit) .seats ≡ now (self .entry) .seats ⌝ }

@@ -18,11 +18,11 @@ ghost-self g c =
     in (
       λ i x free.
           ap (λ (rows : List (List ℕ)). cell 0 rows i x) (c .wipe .ensures .rows)
-          ∙ wiped-stays 0 (t .held .rows) (c .args .slot) (λ v. v ≡ 0) vacant refl (t .unlocked) i x (before i free),
+          ∙ wiped-stays 0 (t .held .rows) (c .args .slot) (λ v. v ≡ 0) vacant refl (λ j y e. t .unlocked j y) i x (before i free),
       (
         λ i x free.
             ap (λ (rows : List (List Note)). is-nothing (cell Nothing rows i x)) (c .wipe-2 .ensures .rows)
-            ∙ wiped-stays Nothing (t .noted .rows) (c .args .slot) (λ v. is-nothing v ≡ true) vacant refl (t .unnoted) i x (before i free),
+            ∙ wiped-stays Nothing (t .noted .rows) (c .args .slot) (λ v. is-nothing v ≡ true) vacant refl (λ j y e. t .unnoted j y) i x (before i free),
         tt,
       ),
     )
