@@ -15,3 +15,5 @@ pub mod Sweeps
 pub mod Notes
 pub mod Tries
 pub mod Ends
+pub mod Table
+pub mod Serves

@@ -9,3 +9,6 @@ pub mod Steps
 pub mod Notes
 pub mod Ends
 pub mod Turns
+pub mod Rows
+pub mod States
+pub mod Replies

@@ -9,6 +9,8 @@ use crate::held::Held;
 use crate::noted::Noted;
 use crate::seats::Seats;
 
+pub mod asks;
+pub mod calls;
 pub mod ends;
 pub mod meets;
 pub mod takes;

@@ -4,10 +4,12 @@
 // a job's state moves), `seats` (which job sits in which slot), `held` and `noted` (modes and notes, by slot and granule), `core`
 // (these and the shelf together: how a job is wounded, and how locks are taken along a path).
 pub mod core;
+pub mod engine;
 pub mod head;
 pub mod held;
 pub mod judge;
 pub mod noted;
+mod rows;
 pub mod seats;
 pub mod slot;
 pub mod turn;

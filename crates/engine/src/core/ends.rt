@@ -13,7 +13,7 @@ use shelf::Shelf;
 
 impl<S: Shelf> Core<S> {
     // A new job sits down in a free slot; its number.
-    pub(crate) fn open(&mut self, slot: usize) -> u32
+    pub(super) fn seat(&mut self, slot: usize) -> u32
         requires within { ⌜ slot < 16 ⌝ }
         requires vacant { ⌜ getD (now self .seats .numbers) slot 0 ≡ 0 ⌝ }
         requires left { ⌜ now self .seats .opened < 1000000 ⌝ }
@@ -25,7 +25,7 @@ impl<S: Shelf> Core<S> {
     }
 
     // A wounded job works again.
-    pub(crate) fn reopen(&mut self, job: u32)
+    pub(super) fn reopen(&mut self, job: u32)
         requires seated { ⌜ slot (now self .seats .numbers) job < 16 ⌝ }
         requires wounded { ⌜ is-wounded (status-of (now self .seats .numbers) (now self .seats .states) job) ≡ true ⌝ }
         ensures model { λ _. ⌜ model (S·Shelf .words) (now (self .exit)) ≡ at-work job (model (S·Shelf .words) (now (self .entry))) ⌝ }
@@ -35,7 +35,7 @@ impl<S: Shelf> Core<S> {
     }
 
     // A job ends: its locks are free, its notes gone, its work stays.
-    pub(crate) fn end(&mut self, job: u32)
+    pub(super) fn end(&mut self, job: u32)
         requires { ⌜ slot (now self .seats .numbers) job < 16 ⌝ }
         ensures model { λ _. ⌜ model (S·Shelf .words) (now (self .exit)) ≡ without-job job (model (S·Shelf .words) (now (self .entry))) ⌝ }
     {
@@ -46,7 +46,7 @@ impl<S: Shelf> Core<S> {
     }
 
     // A job ends whose work is taken back.
-    pub(crate) fn give_up(&mut self, job: u32)
+    pub(super) fn withdraw(&mut self, job: u32)
         requires { ⌜ slot (now self .seats .numbers) job < 16 ⌝ }
         ensures model { λ _. ⌜ model (S·Shelf .words) (now (self .exit)) ≡ without-job job (undone job (model (S·Shelf .words) (now (self .entry)))) ⌝ }
     {

@@ -66,7 +66,7 @@ impl<S: Shelf> Core<S> {
     }
 
     // A job's operation: carried out if it gets the locks, else it waits.
-    pub(crate) fn try_out<M: ModeSystem>(
+    pub(super) fn try_out<M: ModeSystem>(
         &mut self,
         system: &M,
         tree: &Tree,

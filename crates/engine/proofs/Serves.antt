@@ -1,0 +1,94 @@
+-- What follows once a call has done what its definition says: histories go on, and the promise holds of them.
+use mathlib.Core.Path.{_≡_, refl, sym, _∙_, ap, ap₂, subst}
+use mathlib.Core.List.{List, [], _∷_, _++_}
+use Prim.Native.Nat.{ℕ}
+use lib.ListN.{length}
+use Rattle.std.specs.declared.option.Option.{Option}
+use Rattle.std.specs.declared.option.Option.the-variants.{Some, None}
+use Rattle.modes.specs.Systems.{System, Lawful}
+use Rattle.granules.specs.declared.tree.Tree.{Tree}
+use Rattle.granules.specs.Trees.{table}
+use Rattle.ledger.specs.declared.call.Answer.{Answer}
+use Rattle.ledger.specs.declared.call.Answer.the-variants.{Refused}
+use Rattle.ledger.specs.declared.call.Call.{Call}
+use Rattle.ledger.specs.declared.refusal.Refusal.{Refusal}
+use Rattle.ledger.specs.Refusals.{refusal}
+use Rattle.ledger.specs.Ledgers.{Layout, Event, facts}
+use Rattle.ledger.specs.Promises.{Promise}
+use Rattle.ledger.specs.Models as models
+use Rattle.ledger.specs.Models.{Model, fresh, serve, history, served, grant, refused-or}
+use Rattle.ledger.proofs.Promised.{promise-kept}
+use Rattle.engine.specs.declared.core.Core.{Core}
+use Rattle.engine.specs.Turns.{layout}
+use Rattle.engine.specs.Views.{model}
+use Rattle.engine.specs.States.{State, state-by, bare, laid, Stepped, step, Has-history, Keeps, Promised, Served}
+
+-- one call more
+history-push :
+    (y : Layout) (cs : List Call) (c : Call) (m : Model)
+    → history y (cs ++ c ∷ []) m ≡ history y cs m ++ (c, serve y c (served y cs m) .said) ∷ []
+history-push y [] c m = refl
+history-push y (d ∷ cs) c m = ap (λ (es : List Event). (d, serve y d m .said) ∷ es) (history-push y cs c (serve y d m .left))
+
+served-push : (y : Layout) (cs : List Call) (c : Call) (m : Model) → served y (cs ++ c ∷ []) m ≡ serve y c (served y cs m) .left
+served-push y [] c m = refl
+served-push y (d ∷ cs) c m = served-push y cs c (serve y d m .left)
+
+module _ (s : System) (law : Lawful s) (ps first : List ℕ) (h : List Event) (m : Model) (c : Call) where
+  abbrev y : Layout
+  y = record { system = s; parents = ps }
+
+  goes-on : Has-history y first h m → Has-history y first (h ++ (c, serve y c m .said) ∷ []) (serve y c m .left)
+  goes-on k =
+      record {
+        calls = k .calls ++ c ∷ [];
+        admitted = k .admitted;
+        fits = k .fits;
+        told =
+            ap₂ (λ (es : List Event) (n : Model). es ++ (c, serve y c n .said) ∷ []) (k .told) (k .left)
+            ∙ sym (history-push y (k .calls) c (fresh first));
+        left = ap (λ (n : Model). serve y c n .left) (k .left) ∙ sym (served-push y (k .calls) c (fresh first));
+      }
+
+-- the promise holds of every history that is kept
+pub held-to : (s : System) → Lawful s → (ps first : List ℕ) (h : List Event) (m : Model)
+    → Has-history (record { system = s; parents = ps }) first h m → Promise (record { system = s; parents = ps }) first h (m .words)
+held-to s law ps first h m k =
+    let y : Layout = record { system = s; parents = ps } in
+    let p = promise-kept s law ps (length ps) (k .admitted) first (k .fits) (k .calls) in
+    subst (λ (es : List Event). Promise y first es (m .words)) (sym (k .told))
+    (subst (λ (n : Model). Promise y first (history y (k .calls) (fresh first)) (n .words)) (sym (k .left)) p)
+
+-- A call that leaves and says what its definition says has all that is ensured of it.
+pub serves : (s : System) → Lawful s → (c : Call) (before after : State) (a : Answer) → step s c before ≡ record { left = after; said = a } → Served s c before after a
+serves s law c (bare ws) after a e = record { step = e; kept = λ first h k. absurd k; promised = λ first h k. absurd k }
+serves s law c (laid ps m) after a e =
+    record {
+      step = e;
+      kept =
+          λ first h k.
+          subst (λ (r : Stepped). Keeps s (r .left) first (h ++ (c, r .said) ∷ [])) e (goes-on s law ps first h m c k);
+      promised =
+          λ first h k.
+          let y : Layout = record { system = s; parents = ps } in
+          subst (λ (r : Stepped). Promised s (r .left) first (h ++ (c, r .said) ∷ [])) e
+          (held-to s law ps first (h ++ (c, serve y c m .said) ∷ []) (serve y c m .left) (goes-on s law ps first h m c k));
+    }
+
+-- a call by the row of the table
+module _ (y : Layout) (c : Call) (m : Model) where
+  pub denied : (r : Refusal) → refusal (facts y (m .jobs)) c ≡ Some r → serve y c m ≡ record { left = m; said = Refused r }
+  denied r e = ap (λ (o : Option Refusal). refused-or o m (grant y c m)) e
+
+  pub admitted : (x : models.Served) → refusal (facts y (m .jobs)) c ≡ None → grant y c m ≡ x → serve y c m ≡ x
+  admitted x e f = ap (λ (o : Option Refusal). refused-or o m (grant y c m)) e ∙ f
+
+-- An engine that is laid out does what its tables do.
+pub laid-serves :
+    {S : Type 0} (s : System) → Lawful s → (c : Call) (words : S → List ℕ) (tree : Option Tree) (t : Tree) (core core′ : Core S) (a : Answer) → tree ≡ Some t
+    → serve (layout s t) c (model words core) ≡ record { left = model words core′; said = a }
+    → Served s c (state-by words tree core) (state-by words tree core′) a
+laid-serves s law c words tree t core core′ a e f =
+    subst (λ (o : Option Tree). Served s c (state-by words o core) (state-by words o core′) a) (sym e)
+    (serves s law c (laid (table t) (model words core)) (laid (table t) (model words core′)) a
+    (ap (λ (r : models.Served). record { left = laid (table t) (r .left); said = r .said }) f))

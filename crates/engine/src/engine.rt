@@ -1,0 +1,13 @@
+// The engine.
+use crate::core::Core;
+use granules::Tree;
+
+pub mod calls;
+
+// A mode system, a shelf with its tables, and the tree of granules, once it is laid out.
+#[derive(Drop)]
+pub struct Engine<M, S> {
+    system: M,
+    tree: Option<Tree>,
+    core: Core<S>,
+}
