@@ -17,3 +17,5 @@ pub mod Tries
 pub mod Ends
 pub mod Table
 pub mod Serves
+pub mod Replies
+pub mod Lays

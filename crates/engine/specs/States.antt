@@ -39,6 +39,10 @@ state-by words (Some t) c = laid (table t) (model words c)
 abbrev pub state : {M S : Type 0} → (S → List ℕ) → Engine M S → State
 state words e = state-by words (e .tree) (e .core)
 
+abbrev pub words-of : State → List ℕ
+words-of (bare ws) = ws
+words-of (laid ps m) = m .words
+
 -- What a call leaves and answers.
 pub record Stepped : Type 0 where
   pub left : State
@@ -94,6 +98,10 @@ Keeps s (laid ps m) first h = Has-history (record { system = s; parents = ps }) 
 abbrev pub Promised : System → State → List ℕ → List Event → Type 0
 Promised s (bare ws) first h = ⊥
 Promised s (laid ps m) first h = Promise (record { system = s; parents = ps }) first h (m .words)
+
+-- A laying that is done begins a history: the empty one is kept, with the first words that it put.
+abbrev pub Begun : System → List ℕ → State → State → Answer → Type 0
+Begun s first before after a = a ≡ Told Done → Keeps s after (over first (words-of before)) []
 
 -- What every call ensures: it leaves and answers what its definition says; whatever history the engine kept before, it keeps
 -- with this call and its answer added; and the promise holds of it.

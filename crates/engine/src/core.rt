@@ -12,6 +12,7 @@ use crate::seats::Seats;
 pub mod asks;
 pub mod calls;
 pub mod ends;
+pub mod lays;
 pub mod meets;
 pub mod takes;
 pub mod tries;
