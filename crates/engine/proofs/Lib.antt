@@ -19,3 +19,4 @@ pub mod Table
 pub mod Serves
 pub mod Replies
 pub mod Lays
+pub mod Runs

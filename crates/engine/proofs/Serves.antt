@@ -2,14 +2,16 @@
 use mathlib.Core.Path.{_≡_, refl, sym, _∙_, ap, ap₂, subst}
 use mathlib.Core.List.{List, [], _∷_, _++_}
 use Prim.Native.Nat.{ℕ}
+use native.Mathlib.Omega.{arith}
 use lib.ListN.{length}
 use Rattle.std.specs.declared.option.Option.{Option}
 use Rattle.std.specs.declared.option.Option.the-variants.{Some, None}
 use Rattle.modes.specs.Systems.{System, Lawful}
 use Rattle.granules.specs.declared.tree.Tree.{Tree}
 use Rattle.granules.specs.Trees.{table}
+use Rattle.operations.specs.declared.operation.Outcome.the-variants.{Done}
 use Rattle.ledger.specs.declared.call.Answer.{Answer}
-use Rattle.ledger.specs.declared.call.Answer.the-variants.{Refused}
+use Rattle.ledger.specs.declared.call.Answer.the-variants.{Told, Refused}
 use Rattle.ledger.specs.declared.call.Call.{Call}
 use Rattle.ledger.specs.declared.refusal.Refusal.{Refusal}
 use Rattle.ledger.specs.Refusals.{refusal}
@@ -21,7 +23,7 @@ use Rattle.ledger.proofs.Promised.{promise-kept}
 use Rattle.engine.specs.declared.core.Core.{Core}
 use Rattle.engine.specs.Turns.{layout}
 use Rattle.engine.specs.Views.{model}
-use Rattle.engine.specs.States.{State, state-by, bare, laid, Stepped, step, Has-history, Keeps, Promised, Served}
+use Rattle.engine.specs.States.{State, state-by, first-call, laid-by, nothing-yet, bare, laid, Stepped, step, Has-history, Keeps, Promised, Served, words-of}
 
 -- one call more
 history-push :
@@ -92,3 +94,79 @@ laid-serves s law c words tree t core core′ a e f =
     subst (λ (o : Option Tree). Served s c (state-by words o core) (state-by words o core′) a) (sym e)
     (serves s law c (laid (table t) (model words core)) (laid (table t) (model words core′)) a
     (ap (λ (r : models.Served). record { left = laid (table t) (r .left); said = r .said }) f))
+
+-- An engine that is laid out with a table, and keeps a history.
+pub record Follows (s : System) (ps first : List ℕ) (h : List Event) (st : State) : Type 0 where
+  pub model : Model
+  pub laid-out : st ≡ laid ps model
+  pub kept : Has-history (record { system = s; parents = ps }) first h model
+
+pub follows-on :
+    (s : System) → Lawful s → (ps first : List ℕ) (h : List Event) (c : Call) (before after : State) (a : Answer) → Served s c before after a → Follows s ps first h before
+    → Follows s ps first (h ++ (c, a) ∷ []) after
+follows-on s law ps first h c before after a done f =
+    let y : Layout = record { system = s; parents = ps } in
+    let m = f .model in
+    let e : record { left = laid ps (serve y c m .left); said = serve y c m .said } ≡ record { left = after; said = a } =
+    ap (step s c) (sym (f .laid-out)) ∙ done .step
+    in
+    record {
+      model = serve y c m .left;
+      laid-out = sym (ap (λ (r : Stepped). r .left) e);
+      kept =
+          subst (λ (r : Stepped). Has-history y first (h ++ (c, r .said) ∷ []) (serve y c m .left)) e
+          (goes-on s law ps first h m c (f .kept));
+    }
+
+pub follows-promise :
+    (s : System) → Lawful s → (ps first : List ℕ) (h : List Event) (st : State) → Follows s ps first h st
+    → Promise (record { system = s; parents = ps }) first h (words-of st)
+follows-promise s law ps first h st f =
+    subst (λ (x : State). Promise (record { system = s; parents = ps }) first h (words-of x)) (sym (f .laid-out))
+    (held-to s law ps first h (f .model) (f .kept))
+
+-- A laying that is done leaves the engine laid out with what it says, and one that is refused leaves it as it was.
+module _ (s : System) (c : Call) (ws : List ℕ) (st : State) where
+  done-by : (o : Option Refusal) → first-call o c ws ≡ record { left = st; said = Told Done } → (o ≡ None) × (st ≡ laid-by c ws)
+  done-by (Some r) e =
+      let said : Refused r ≡ Told Done = ap (λ (x : Stepped). x .said) e in
+      let z : _≡_ {A = ℕ} 0 1 = cc in
+      absurd (omega arith)
+  done-by None e = (refl, sym (ap (λ (x : Stepped). x .left) e))
+
+  pub lay-done : step s c (bare ws) ≡ record { left = st; said = Told Done } → (refusal (nothing-yet ws) c ≡ None) × (st ≡ laid-by c ws)
+  lay-done e = done-by (refusal (nothing-yet ws) c) e
+
+  refused-by : (r : Refusal) (o : Option Refusal) → first-call o c ws ≡ record { left = st; said = Refused r } → (o ≡ Some r) × (st ≡ bare ws)
+  refused-by r (Some x) e =
+      let said : Refused x ≡ Refused r = ap (λ (x : Stepped). x .said) e in
+      let same : x ≡ r = cc in
+      (ap Some same, sym (ap (λ (x : Stepped). x .left) e))
+  refused-by r None e =
+      let said : Told Done ≡ Refused r = ap (λ (x : Stepped). x .said) e in
+      let z : _≡_ {A = ℕ} 0 1 = cc in
+      absurd (omega arith)
+
+  pub lay-refused : (r : Refusal) → step s c (bare ws) ≡ record { left = st; said = Refused r } → (refusal (nothing-yet ws) c ≡ Some r) × (st ≡ bare ws)
+  lay-refused r e = refused-by r (refusal (nothing-yet ws) c) e
+
+-- What a laying that is done begins with.
+pub record Began (s : System) (c : Call) (ws ps first : List ℕ) (st : State) : Type 0 where
+  pub not-refused : refusal (nothing-yet ws) c ≡ None
+  pub first-words : words-of st ≡ first
+  pub follows : Follows s ps (words-of st) [] st
+
+pub begins :
+    (s : System) (c : Call) (ws ps first : List ℕ) (before st : State) → before ≡ bare ws → laid-by c ws ≡ laid ps (fresh first) → Served s c before st (Told Done)
+    → Keeps s st first [] → Began s c ws ps first st
+begins s c ws ps first before st b l done kept =
+    let r = lay-done s c ws st (ap (step s c) (sym b) ∙ done .step) in
+    let laid-out = r .1 ∙ l in
+    let words = ap words-of laid-out in
+    record {
+      not-refused = r .0;
+      first-words = words;
+      follows =
+          subst (λ (f : List ℕ). Follows s ps f [] st) (sym words)
+          (record { model = fresh first; laid-out = laid-out; kept = subst (λ (x : State). Keeps s x first []) laid-out kept });
+    }

@@ -12,3 +12,4 @@ pub mod Turns
 pub mod Rows
 pub mod States
 pub mod Replies
+pub mod Runs

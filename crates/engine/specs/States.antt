@@ -70,7 +70,7 @@ laid-by (Commit j) ws = bare ws
 laid-by (GiveUp j) ws = bare ws
 laid-by (Look g) ws = bare ws
 
-abbrev first-call : Option Refusal → Call → List ℕ → Stepped
+abbrev pub first-call : Option Refusal → Call → List ℕ → Stepped
 first-call (Some r) c ws = record { left = bare ws; said = Refused r }
 first-call None c ws = record { left = laid-by c ws; said = Told Done }
 

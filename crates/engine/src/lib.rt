@@ -10,6 +10,7 @@ pub mod held;
 pub mod judge;
 pub mod noted;
 mod rows;
+pub mod run;
 pub mod seats;
 pub mod slot;
 pub mod turn;

@@ -13,10 +13,10 @@ use Rattle.granules.specs.Tables.{fault}
 use Rattle.std.specs.declared.option.Option.the-variants.{None}
 use Rattle.operations.specs.Words.{after}
 use Rattle.operations.proofs.Edges.{one-granule, wraps, halves-up, eight-deep}
-use Rattle.ledger.specs.Ledgers.{Event, blank}
+use Rattle.ledger.specs.Ledgers.{Event, blank, together}
 use Rattle.ledger.specs.Promises.{Each-event}
 use Rattle.ledger.specs.Models.{fresh, history, served}
-use Rattle.ledger.specs.Stories.{six, first-words, story-calls, story-answers, together, Story, Restores, Seventeenth, Uppermost, Edge-cases}
+use Rattle.ledger.specs.Stories.{six, first-words, story-calls, story-answers, Story, Restores, Seventeenth, Uppermost, Edge-cases}
 use Rattle.ledger.proofs.Promised.{promise-kept}
 
 said : history six story-calls (fresh first-words) ≡ together story-calls story-answers

@@ -115,6 +115,12 @@ granted y (Look g) a l = l
 abbrev pub Event : Type 0
 Event = Call × Answer
 
+-- Calls with their answers, in order.
+abbrev pub together : List Call → List Answer → List Event
+together [] xs = []
+together (c ∷ cs) [] = []
+together (c ∷ cs) (x ∷ xs) = (c, x) ∷ together cs xs
+
 abbrev pub unless-refused : Option Refusal → Ledger → Ledger → Ledger
 unless-refused (Some r) before after = before
 unless-refused None before after = after

@@ -20,7 +20,7 @@ use Rattle.ledger.specs.declared.call.Call.the-variants.{Open, Carry, Go, Agai
 use Rattle.ledger.specs.declared.refusal.Refusal.the-variants.{NotLaidOut, TooManyJobs, NumbersUsedUp, NoSuchJob, JobWounded, JobWaiting, NoSuchGranule, JobNotWaiting, JobNotWounded}
 use Rattle.ledger.specs.Refusals.{Facts, refusal}
 use Rattle.ledger.specs.Jobs.{Status, working, waiting, wounded, ended}
-use Rattle.ledger.specs.Ledgers.{Layout, Event, blank}
+use Rattle.ledger.specs.Ledgers.{Layout, Event, blank, together}
 use Rattle.ledger.specs.Promises.{Each-event}
 use Rattle.ledger.specs.Models.{fresh, history, served}
 
@@ -33,11 +33,6 @@ on g a = record { granule = g; action = a }
 
 abbrev answers : List Event → List Answer
 answers es = map (λ e. e .1) es
-
-abbrev pub together : List Call → List Answer → List Event
-together [] xs = []
-together (c ∷ cs) [] = []
-together (c ∷ cs) (x ∷ xs) = (c, x) ∷ together cs xs
 
 -- Six granules: a database with two files, 1 and 2; records 3 and 4 in the first, 5 in the second.
 abbrev pub six : Layout
