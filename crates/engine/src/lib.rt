@@ -1,16 +1,35 @@
-// The engine's parts, so far: none of them serves a call yet.
+// The engine: eleven calls over a mode system and a shelf.
 //
-// A job that is not ended sits in one of 16 slots. From the bottom: `judge` (what follows from one holder of a lock), `slot` (how
-// a job's state moves), `seats` (which job sits in which slot), `held` and `noted` (modes and notes, by slot and granule), `core`
-// (these and the shelf together: how a job is wounded, and how locks are taken along a path).
-pub mod core;
+// The way of a call: `engine` takes it and knows whether the engine is laid out; `core` tries the rows of the table of
+// refusals from the top (`core/calls`, with `rows` for those that go by a job's state), finds the job's slot (`seats`), takes its locks
+// from granule to granule (`core/walks`), where whoever is in the way is judged (`core/meets`, `judge`), and does the work on
+// the shelf with its notes (`core/tries`, `noted`). `run` is a whole run.
+//
+// What is kept. At most 16 jobs have not ended, so each sits in one of 16 slots:
+//
+//     seats   numbers   which job sits in a slot, 0 where it is free
+//             states    its state, ended just where the slot is free
+//             opened    the last number given
+//     held    rows      for each slot, the mode held on each of 256 granules
+//             counts    for each granule, how many slots hold each mode: agrees with the rows
+//     noted   rows      for each slot, its note on each of 256 granules
+//     core    shelf     the words; a free slot holds nothing and notes nothing
+//
+// Each of these sentences is an invariant of the type. Nothing after the construction takes memory.
+//
+// Read specs/ in this order: `States` (what an engine is to its callers, what a call does, what every call ensures), `Runs`, `Replies`,
+// `Views` (the model of the tables), then what the parts are held to.
+mod core;
 pub mod engine;
-pub mod head;
-pub mod held;
-pub mod judge;
-pub mod noted;
+mod head;
+mod held;
+mod judge;
+mod noted;
 mod rows;
 pub mod run;
-pub mod seats;
-pub mod slot;
+mod seats;
+mod slot;
 pub mod turn;
+
+pub use engine::Engine;
+pub use turn::Turn;
