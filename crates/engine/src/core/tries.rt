@@ -4,7 +4,7 @@ ghost use mathlib.Core.Path.{_≡_};
 ghost use Prim.Native.Nat.{_<_};
 ghost use Rattle.granules.specs.Trees.{table};
 ghost use Rattle.modes.specs.Systems.{System};
-ghost use Rattle.operations.specs.Words.{answer};
+ghost use Rattle.operations.specs.Words.{answer, after};
 ghost use Rattle.ledger.specs.Jobs.{is-open};
 ghost use Rattle.ledger.specs.Ledgers.{attempt, Layout};
 ghost use Rattle.ledger.specs.Models.{carried, model-hands, try, Served};
@@ -54,6 +54,17 @@ impl<S: Shelf> Core<S> {
         true
     }
 
+    // Does the work of an operation on the shelf.
+    fn work(&mut self, tree: &Tree, operation: Operation) -> Outcome
+        ensures value { λ r. ⌜ r ≡ answer (table (now (tree .entry))) operation (S·Shelf .words (now (self .entry) .shelf)) ⌝ }
+        ensures after { λ _. ⌜ S·Shelf .words (now (self .exit) .shelf) ≡ after (table (now (tree .entry))) operation (S·Shelf .words (now (self .entry) .shelf)) ⌝ }
+        ensures seats { λ _. ⌜ now (self .exit) .seats ≡ now (self .entry) .seats ⌝ }
+        ensures held { λ _. ⌜ now (self .exit) .held ≡ now (self .entry) .held ⌝ }
+        ensures noted { λ _. ⌜ now (self .exit) .noted ≡ now (self .entry) .noted ⌝ }
+    {
+        carry_out(tree, &mut self.shelf, operation)
+    }
+
     // Carries an operation of a job out, and notes what is changed so that it can be taken back.
     fn carry(&mut self, tree: &Tree, job: u32, operation: Operation) -> Outcome
         requires { ⌜ slot (now self .seats .numbers) job < 16 ⌝ }
@@ -62,7 +73,7 @@ impl<S: Shelf> Core<S> {
     {
         let slot = self.seats.slot_of(job);
         self.noted.note(tree, &self.shelf, slot, operation);
-        carry_out(tree, &mut self.shelf, operation)
+        self.work(tree, operation)
     }
 
     // A job's operation: carried out if it gets the locks, else it waits.

@@ -38,13 +38,22 @@ impl Held {
         self.rows[slot][granule] = mode;
     }
 
-    // A slot that holds nothing any more.
+    // A slot lets go of a granule.
+    fn release(&mut self, slot: usize, granule: usize)
+        requires slot { ⌜ slot < 16 ⌝ }
+        requires granule { ⌜ granule < 256 ⌝ }
+        ensures rows { λ _. ⌜ now (self .exit) .rows ≡ with-cell (now (self .entry) .rows) slot granule 0 ⌝ }
+    {
+        self.put(slot, granule, 0);
+    }
+
+    // A slot lets go of everything.
     pub(crate) fn wipe(&mut self, slot: usize)
         requires { ⌜ slot < 16 ⌝ }
         ensures rows { λ _. ⌜ now (self .exit) .rows ≡ set (now (self .entry) .rows) slot (replicate 256 0) ⌝ }
     {
         for granule in 0..256 {
-            self.put(slot, granule, 0);
+            self.release(slot, granule);
         }
     }
 }

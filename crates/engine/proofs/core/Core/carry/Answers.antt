@@ -1,8 +1,12 @@
-use mathlib.Core.Path.{_≡_, refl, sym, _∙_, ap}
+use mathlib.Core.Path.{_≡_, refl, sym, _∙_, ap, ap₂}
 use mathlib.Core.List.{List}
 use Rattle.granules.specs.Trees.{table}
 use Rattle.ledger.specs.declared.job.Note.{Note}
 use Rattle.ledger.specs.declared.job.Note.the-variants.{Nothing}
+use Rattle.engine.specs.declared.held.Held.{Held}
+use Rattle.engine.specs.declared.noted.Noted.{Noted}
+use Rattle.engine.specs.declared.seats.Seats.{Seats}
+use Rattle.engine.specs.Views.{whole}
 use Rattle.engine.specs.Grids.{cell, is-nothing}
 use Rattle.engine.proofs.Grids.{other-cell}
 use Rattle.engine.proofs.Notes.{carry-view}
@@ -27,10 +31,13 @@ pub returns : need.returns
 returns g c =
     let t = c .args .self .now in
     let here = sym (c .slot-of-slot .ensures .value) in
+    let left = c .work .last .self in
     record {
-      value = c .carry-out .ensures .value;
+      value = c .work .ensures .value;
       model =
           λ s.
-          carry-view s (table (c .args .tree .now)) (g .S·Shelf .words (t .shelf)) (g .S·Shelf .words (c .carry-out .last .shelf)) (t .seats) (t .held) (t .noted) (c .note .last .self)
-          (c .args .job) (c .args .operation) (c .pre) (rw here (c .note .ensures .others)) (rw here (c .note .ensures .notes)) (c .carry-out .ensures .after);
+          ap (λ (n : Seats). whole (g .S·Shelf .words (left .shelf)) n (left .held) (left .noted)) (c .work .ensures .seats)
+          ∙ ap₂ (λ (h : Held) (n : Noted). whole (g .S·Shelf .words (left .shelf)) (t .seats) h n) (c .work .ensures .held) (c .work .ensures .noted)
+          ∙ carry-view s (table (c .args .tree .now)) (g .S·Shelf .words (t .shelf)) (g .S·Shelf .words (left .shelf)) (t .seats) (t .held) (t .noted) (c .note .last .self)
+          (c .args .job) (c .args .operation) (c .pre) (rw here (c .note .ensures .others)) (rw here (c .note .ensures .notes)) (c .work .ensures .after);
     }

@@ -12,10 +12,10 @@ pub loop-granule-again : need.loop-granule-again
 loop-granule-again c =
     let t = c .loop-granule .self in
     let within : c .args .slot < length (t .rows) = omega (arith, t .full, c .pre) in (
-      ap (λ (rows : List (List ℕ)). set rows (c .args .slot) (replicate 256 0)) (c .put .ensures .rows)
+      ap (λ (rows : List (List ℕ)). set rows (c .args .slot) (replicate 256 0)) (c .release .ensures .rows)
           ∙ set-set (t .rows) (c .args .slot) _ _
           ∙ c .loop-granule .inv .0,
-      subst (λ (rows : List (List ℕ)). (y : ℕ) → y < c .loop-granule .granule + 1 → cell 0 rows (c .args .slot) y ≡ 0) (sym (c .put .ensures .rows))
+      subst (λ (rows : List (List ℕ)). (y : ℕ) → y < c .loop-granule .granule + 1 → cell 0 rows (c .args .slot) y ≡ 0) (sym (c .release .ensures .rows))
           (wiped-more 0 (t .rows) (c .args .slot) (c .loop-granule .granule) within
           (omega (arith, long-at 256 (t .rows) (c .args .slot) within (t .long))) (c .loop-granule .inv .1)),
     )
