@@ -13,6 +13,7 @@ ghost use Rattle.engine.specs.Views.{model};
 ghost use Rattle.engine.specs.Wounds.{wounded-one};
 use super::Core;
 use crate::slot::Event;
+use ledger::Note;
 use shelf::Shelf;
 
 impl<S: Shelf> Core<S> {
@@ -25,8 +26,12 @@ impl<S: Shelf> Core<S> {
         ensures held { λ _. ⌜ now (self .exit) .held ≡ now (self .entry) .held ⌝ }
         ensures noted { λ _. ⌜ now (self .exit) .noted ≡ now (self .entry) .noted ⌝ }
     {
+        let note = self.noted.get(slot, place);
+        if let Note::Nothing = note {
+            return;
+        }
         if let Some(word) = self.shelf.get(place) {
-            let old = self.noted.get(slot, place).back(word);
+            let old = note.back(word);
             let _ = self.shelf.put(place, old);
         }
     }

@@ -49,8 +49,8 @@ impl<M: ModeSystem, S: Shelf> Engine<M, S> {
     }
 
     // A granule's group mode, the join of all modes held there, and how many jobs hold one.
-    pub fn look(&mut self, granule: u32) -> Result<(u8, u32), Refusal>
-        ensures served { λ r. ⌜ Served (M·ModeSystem .meaning) (Look granule) (state (S·Shelf .words) (now (self .entry))) (state (S·Shelf .words) (now (self .exit))) (as-head r) ⌝ }
+    pub fn look(&self, granule: u32) -> Result<(u8, u32), Refusal>
+        ensures served { λ r. ⌜ Served (M·ModeSystem .meaning) (Look granule) (state (S·Shelf .words) (now (self .entry))) (state (S·Shelf .words) (now (self .entry))) (as-head r) ⌝ }
     {
         let Some(tree) = &self.tree else {
             return Err(Refusal::NotLaidOut);

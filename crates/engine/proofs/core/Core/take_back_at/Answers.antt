@@ -1,13 +1,31 @@
-use mathlib.Core.Path.{refl, sym, _∙_}
-use Rattle.std.proofs.shelf.Lists.{set-past}
+use mathlib.Core.Path.{_≡_, refl, sym, _∙_, ap}
+use Prim.Native.Nat.{ℕ}
+use lib.ListN.{getD, set}
+use Rattle.std.proofs.shelf.Lists.{set-getD, set-past}
+use Rattle.ledger.specs.declared.job.Note.{Note}
+use Rattle.ledger.specs.Models.{back}
 use Rattle.engine.proofs.Words.{at-none}
 use Rattle.engine.proofs.core.Core.take_back_at.Needs as need
 
-pub returns-in-rest : need.returns-in-rest
-returns-in-rest g c =
+pub returns-in-Nothing : need.returns-in-Nothing
+returns-in-Nothing g c =
+    let ws = g .S·Shelf .words (c .args .self .now .shelf) in
+    let word = getD ws (c .args .place) 0 in
+    record {
+      words =
+          sym
+          (ap (λ (n : Note). set ws (c .args .place) (back n word)) (sym (c .in-Nothing .ensures tt .value))
+          ∙ set-getD ws (c .args .place) 0);
+      seats = refl;
+      held = refl;
+      noted = refl;
+    }
+
+pub returns-in-rest-get : need.returns-in-rest-get
+returns-in-rest-get g c =
     let ws = g .S·Shelf .words (c .args .self .now .shelf) in
     record {
-      words = sym (set-past ws (c .args .place) _ (at-none ws (c .args .place) (sym (c .get .ensures .value) ∙ c .in-rest .is)));
+      words = sym (set-past ws (c .args .place) _ (at-none ws (c .args .place) (sym (c .get .ensures .value) ∙ c .in-rest-get .is)));
       seats = refl;
       held = refl;
       noted = refl;
