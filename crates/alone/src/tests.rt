@@ -1,23 +1,22 @@
 // Reports, worked out from the rules: what is admitted, and what is not with its one line.
 use crate::listing::Report;
+use crate::listing::ReportDisplay;
 use crate::listing::report_on;
 use std::alloc::Global;
 use std::test::*;
 
 // Whether an input is run and listed so.
 fn runs(heap: Global, text: &[u8], listing: &str) -> Result<bool, Fail> {
-    match report_on(heap, text)? {
-        Report::Ran(found) => Ok(found.as_str() == listing),
-        Report::Denied(_) => Ok(false),
-    }
+    let report = report_on(heap, text)?;
+    let found = format!(heap, "{report}")?;
+    Ok(matches!(report, Report::Ran(_, _)) && found.as_str() == listing)
 }
 
 // Whether an input is denied so.
 fn denies(heap: Global, text: &[u8], reason: &str) -> Result<bool, Fail> {
-    match report_on(heap, text)? {
-        Report::Ran(_) => Ok(false),
-        Report::Denied(found) => Ok(found.as_str() == reason),
-    }
+    let report = report_on(heap, text)?;
+    let found = format!(heap, "{report}")?;
+    Ok(!matches!(report, Report::Ran(_, _)) && found.as_str() == reason)
 }
 
 #[test]
