@@ -2,7 +2,7 @@
 use mathlib.Core.Bool.{Bool, true, false, not}
 use mathlib.Core.List.{List, [], _∷_, _++_}
 use mathlib.Core.Path.{_≡_, refl, sym, _∙_, ap, subst}
-use Prim.Native.Nat.{ℕ, zero, suc, _+_, _-_, _≤_, _<_}
+use Prim.Native.Nat.{ℕ, suc, _+_, _-_, _<_}
 use native.Mathlib.Numerals.{add-one}
 use native.Mathlib.Omega.{arith}
 use lib.ListN.{length, getD, take, drop}
@@ -14,8 +14,8 @@ use Rattle.std.specs.declared.result.Result.{Result}
 use Rattle.std.specs.declared.result.Result.the-variants.{Ok, Err}
 use Rattle.entries.specs.Cuts.{Remains, entries-after}
 use Rattle.alone.specs.declared.input.Denied.{Denied}
-use Rattle.alone.specs.declared.input.Denied.the-variants.{Entry, Memory}
-use Rattle.alone.specs.Inputs.{Read-as, Reading, good, bad, and-then, wanted, closed, spent, next, all-of, lettered, operation}
+use Rattle.alone.specs.declared.input.Denied.the-variants.{Memory}
+use Rattle.alone.specs.Inputs.{Read-as, Reading, good, bad, and-then, closed, spent, next, all-of, lettered, operation-in}
 
 -- what follows, after the values xs
 abbrev onto : {A : Type 0} → List A → Reading (List A) → Reading (List A)
@@ -111,6 +111,6 @@ unread view defined (Err d) h = subst (λ (e : Denied). Read-as view defined (Er
 
 -- an operation begins with its letter
 pub operation-from :
-    (granules : ℕ) (xs : List ℕ) → lettered granules (getD xs 0 0) (take (length xs - 1) (drop 1 xs)) ≡ operation granules xs
+    (granules : ℕ) (xs : List ℕ) → lettered granules (getD xs 0 0) (take (length xs - 1) (drop 1 xs)) ≡ operation-in granules xs
 operation-from granules [] = refl
 operation-from granules (x ∷ xs) = ap (lettered granules x) (take-all (suc (length xs) - 1) xs (omega arith))

@@ -1,7 +1,6 @@
 -- A whole text, line by line.
-use mathlib.Core.Bool.{Bool, true, false}
 use mathlib.Core.List.{List}
-use mathlib.Core.Path.{_≡_, refl, sym, _∙_, ap, subst}
+use mathlib.Core.Path.{_≡_, refl, sym, ap, subst}
 use Prim.Native.Nat.{ℕ}
 use lib.Dec.{eqb}
 use lib.ListN.{length}
@@ -15,17 +14,22 @@ use Rattle.entries.specs.Cuts.{Remains, line, lines-after}
 use Rattle.alone.specs.declared.input.Denied.{Denied}
 use Rattle.alone.specs.declared.input.Denied.the-variants.{Entry, Memory}
 use Rattle.alone.specs.declared.input.Work.{Work}
-use Rattle.alone.specs.Inputs.{Read-as, Reading, good, bad, and-then, closed, sizes, all-of, operation, read-lines, reading, Input, input-of}
+use Rattle.alone.specs.Inputs.{Read-as, Reading, good, bad, and-then, closed, sizes, all-of, operation-in, read-lines, reading, Input, input-of}
 
--- four lines and what follows are a text
-cut : (a : List ℕ) → reading a ≡ read-lines (line a) (line (lines-after a)) (line (lines-after (lines-after a))) (line (lines-after (lines-after (lines-after a)))) (lines-after (lines-after (lines-after (lines-after a))))
+-- a text is its four lines and what follows them
+lines-of :
+    (text : List ℕ) → let second = lines-after text in
+    let third = lines-after second in
+    let fourth = lines-after third in
+    reading text ≡ read-lines (line text) (line second) (line third) (line fourth) (lines-after fourth)
 unfolding reading
-cut a = refl
+lines-of text = refl
 
 pub text-of :
-    (text : List ℕ) {a b c d e : List ℕ} {first second third fourth : Remains} → a ≡ text → first ≡ line a → b ≡ lines-after a → second ≡ line b → c ≡ lines-after b
-    → third ≡ line c → d ≡ lines-after c → fourth ≡ line d → e ≡ lines-after d → read-lines first second third fourth e ≡ reading text
-text-of text at f ab s bc t cd r de = let h = cut text in cc
+    (text : List ℕ) {a b c d e : List ℕ} {first second third fourth : Remains} → a ≡ text → first ≡ line a → b ≡ lines-after a
+    → second ≡ line b → c ≡ lines-after b → third ≡ line c → d ≡ lines-after c → fourth ≡ line d → e ≡ lines-after d
+    → read-lines first second third fourth e ≡ reading text
+text-of text at f ab s bc t cd r de = let all = lines-of text in cc
 
 -- after a good part the next decides
 pub then-next :
@@ -71,18 +75,18 @@ third-bad a b c d more n s ps y r p q h w =
 pub fourth-bad :
     (a b c d : Remains) (more : List ℕ) (n s : ℕ) (ps ws : List ℕ) (y : Denied) (r : Result Work Denied) → sizes a ≡ good (n, s)
     → all-of numeral 2 1 n b ≡ good ps → all-of numeral 3 1 n c ≡ good ws → ErrBy r (λ e. e ≡ y)
-    → Read-as (vec-items {Z = Global}) (all-of (operation n) 4 1 s d) (Err y) → Read-as input-of (read-lines a b c d more) r
+    → Read-as (vec-items {Z = Global}) (all-of (operation-in n) 4 1 s d) (Err y) → Read-as input-of (read-lines a b c d more) r
 unfolding read-lines
 fourth-bad a b c d more n s ps ws y r p q w h o =
     then-next input-of (sizes a) (n, s) _ r p
     (then-next input-of (all-of numeral 2 1 n b) ps _ r q
     (then-next input-of (all-of numeral 3 1 n c) ws _ r w
-    (bad-part (vec-items {Z = Global}) input-of (all-of (operation n) 4 1 s d) _ y r h o)))
+    (bad-part (vec-items {Z = Global}) input-of (all-of (operation-in n) 4 1 s d) _ y r h o)))
 
 -- where all four are good, what follows decides
 pub all-good :
     (a b c d : Remains) (more : List ℕ) (n s : ℕ) (i : Input) → sizes a ≡ good (n, s)
     → all-of numeral 2 1 n b ≡ good (i .parents) → all-of numeral 3 1 n c ≡ good (i .words)
-    → all-of (operation n) 4 1 s d ≡ good (i .operations) → read-lines a b c d more ≡ closed 5 1 (eqb (length more) 0) i
+    → all-of (operation-in n) 4 1 s d ≡ good (i .operations) → read-lines a b c d more ≡ closed 5 1 (eqb (length more) 0) i
 unfolding read-lines
 all-good a b c d more n s i p q w o = rw (p, q, w, o)

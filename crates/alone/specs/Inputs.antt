@@ -38,7 +38,7 @@ abbrev pub and-then : {A B : Type 0} → Reading A → (A → Reading B) → Rea
 and-then (good x) next = next x
 and-then (bad l e) next = bad l e
 
--- What has to be there at entry e of line l.
+-- What has to be there as entry e of line l.
 abbrev pub wanted : {A : Type 0} → ℕ → ℕ → Option A → Reading A
 wanted l e None = bad l e
 wanted l e (Some x) = good x
@@ -57,30 +57,33 @@ chained (Some x) f = f x
 abbrev pub within : ℕ → ℕ → Option ℕ → Option ℕ
 within low high o = chained o (λ v. cond (leb low v && leb v high) (Some v) None)
 
--- What the letter of an operation stands for, `r`, `m`, `s` or `a`, with the bytes after its `=` if it has one.
-abbrev pub action : ℕ → Option (List ℕ) → Option Action
-action letter None = cond (eqb letter 114) (Some Read) (cond (eqb letter 109) (Some Mean) None)
-action letter (Some word) =
+-- What the letter of an operation stands for, `r` (byte 114), `m` (109), `s` (115) or `a` (97), with the bytes after its `=` if
+-- it has one.
+abbrev pub action-of : ℕ → Option (List ℕ) → Option Action
+action-of letter None = cond (eqb letter 114) (Some Read) (cond (eqb letter 109) (Some Mean) None)
+action-of letter (Some word) =
     cond (eqb letter 115) (mapped Set (numeral word)) (cond (eqb letter 97) (mapped Add (numeral word)) None)
 
 -- A granule, if there is one below `granules`.
-abbrev pub granule : ℕ → List ℕ → Option ℕ
-granule granules bytes = chained (numeral bytes) (λ g. cond (ltb g granules) (Some g) None)
+abbrev pub granule-in : ℕ → List ℕ → Option ℕ
+granule-in granules bytes = chained (numeral bytes) (λ g. cond (ltb g granules) (Some g) None)
 
--- An operation, as `r3`, `m0`, `s2=4` or `a3=5`: a letter, a granule and, for `s` and `a`, `=` and a word.
+-- An operation, as `r3`, `m0`, `s2=4` or `a3=5`: a letter, a granule and, for `s` and `a`, `=` (byte 61) and a word.
 abbrev pub lettered : ℕ → ℕ → List ℕ → Option Operation
 lettered granules letter rest =
-    chained (granule granules (head 61 rest))
-    (λ g. chained (action letter (tail 61 rest)) (λ a. Some (record { granule = g; action = a })))
+    chained (granule-in granules (head 61 rest))
+    (λ g. chained (action-of letter (tail 61 rest)) (λ a. Some (record { granule = g; action = a })))
 
-abbrev pub operation : ℕ → List ℕ → Option Operation
-operation granules [] = None
-operation granules (letter ∷ rest) = lettered granules letter rest
+-- The operation that an entry stands for, if it is one.
+abbrev pub operation-in : ℕ → List ℕ → Option Operation
+operation-in granules [] = None
+operation-in granules (letter ∷ rest) = lettered granules letter rest
 
 -- What is left to read of a `Line`.
 abbrev pub remains : Line → Remains
 remains l = record { bytes = mapped now (l .rest); whole = l .whole }
 
+-- Whether all its entries have been read.
 abbrev pub spent : Remains → Bool
 spent r = not (isSome (r .bytes))
 
@@ -111,7 +114,7 @@ read-lines first second third fourth more =
     (λ parents.
     and-then (all-of numeral 3 1 (size .0) third)
     (λ words.
-    and-then (all-of (operation (size .0)) 4 1 (size .1) fourth)
+    and-then (all-of (operation-in (size .0)) 4 1 (size .1) fourth)
     (λ operations.
     closed 5 1 (eqb (length more) 0) (record { parents = parents; words = words; operations = operations })))))
 

@@ -1,23 +1,22 @@
 // Reading the input, entry by entry.
 ghost use mathlib.Core.Path.{_≡_};
-ghost use Prim.Native.Nat.{ℕ, _≤_};
+ghost use Prim.Native.Nat.{_≤_};
 ghost use lib.Dec.{eqb};
 ghost use lib.ListN.{length};
-ghost use denote.Ref.{now as seen};
 ghost use Rattle.std.specs.Of.Vec.{vec-items};
 ghost use Rattle.std.specs.Options.{mapped};
 ghost use Rattle.std.specs.Vec.{made};
-ghost use Rattle.entries.specs.Cuts.{line, lines-after, entries-after};
+ghost use Rattle.entries.specs.Cuts.{line as line-of, lines-after, entries-after};
 ghost use Rattle.entries.specs.Numbers.{numeral};
 ghost use Rattle.alone.specs.declared.input.Denied.the-variants.{Memory};
-ghost use Rattle.alone.specs.Inputs.{Read-as, closed, within, action, granule as granule-in, lettered, operation, remains, next, sizes, all-of, reading, input-of};
+ghost use Rattle.alone.specs.Inputs.{Read-as, closed, within, remains, next, sizes, all-of, reading, input-of};
+ghost use Rattle.alone.specs.Inputs.{action-of, granule-in, lettered, operation-in};
 use entries::Line;
 use entries::Lines;
 use entries::cut::cut_at;
 use entries::number::number;
 use operations::Action;
 use operations::Operation;
-use std::alloc::AllocError;
 use std::alloc::Global;
 use std::alloc::Refused;
 
@@ -35,14 +34,6 @@ pub enum Denied {
     // the entry at this line and place, both from 1, is empty, missing, surplus, ill formed or out of range
     Entry(u32, u32),
     Memory,
-}
-
-impl From<AllocError> for Denied as DeniedFromAllocError {
-    ghost converts = { λ _ d. d ≡ Memory };
-
-    fn from(_: AllocError) -> Denied {
-        Denied::Memory
-    }
 }
 
 impl<T: Drop> From<Refused<T>> for Denied as DeniedFromRefused {
@@ -108,7 +99,7 @@ fn numbers(heap: Global, mut line: Line<'_>, at: u32, count: u32) -> Result<Vec<
 
 // What an operation does, by its letter and the bytes after its `=`, if it has one.
 fn action(letter: u8, word: Option<&[u8]>) -> Option<Action>
-    ensures value { λ r. ⌜ r ≡ action letter (mapped seen (word .entry)) ⌝ }
+    ensures value { λ r. ⌜ r ≡ action-of letter (mapped now (word .entry)) ⌝ }
 {
     match (letter, word) {
         (b'r', None) => Some(Action::Read),
@@ -140,8 +131,9 @@ fn lettered(letter: u8, rest: &[u8], granules: u32) -> Option<Operation>
     Some(Operation { granule, action })
 }
 
+// An operation.
 fn operation(entry: &[u8], granules: u32) -> Option<Operation>
-    ensures value { λ r. ⌜ r ≡ operation granules (now (entry .entry)) ⌝ }
+    ensures value { λ r. ⌜ r ≡ operation-in granules (now (entry .entry)) ⌝ }
 {
     match entry {
         [] => None,
@@ -151,7 +143,7 @@ fn operation(entry: &[u8], granules: u32) -> Option<Operation>
 
 // The next entry of a line, if it is an operation.
 fn next_operation(line: &mut Line<'_>, granules: u32) -> Option<Operation>
-    ensures value { λ r. ⌜ r ≡ next (operation granules) (remains (now (line .entry))) ⌝ }
+    ensures value { λ r. ⌜ r ≡ next (operation-in granules) (remains (now (line .entry))) ⌝ }
     ensures after { λ _. ⌜ remains (now (line .exit)) ≡ entries-after (remains (now (line .entry))) ⌝ }
 {
     operation(line.next_entry()?, granules)
@@ -165,7 +157,7 @@ fn steps(
     count: u32,
 ) -> Result<Vec<Operation>, Denied>
     requires { ⌜ count ≤ 1024 ⌝ }
-    ensures value { λ r. ⌜ Read-as vec-items (all-of (operation granules) 4 1 count (remains (line .entry))) r ⌝ }
+    ensures value { λ r. ⌜ Read-as vec-items (all-of (operation-in granules) 4 1 count (remains (line .entry))) r ⌝ }
 {
     let mut operations = Vec::new(heap);
     for i in 0..count {
@@ -182,7 +174,7 @@ fn steps(
 
 // The next line of a text.
 fn next_line<'a>(lines: &mut Lines<'a>) -> Line<'a>
-    ensures value { λ r. ⌜ remains r ≡ line (now (now (lines .entry) .rest)) ⌝ }
+    ensures value { λ r. ⌜ remains r ≡ line-of (now (now (lines .entry) .rest)) ⌝ }
     ensures after { λ _. ⌜ now (now (lines .exit) .rest) ≡ lines-after (now (now (lines .entry) .rest)) ⌝ }
 {
     lines.next_line()

@@ -1,5 +1,4 @@
 // Running what was read, and writing down what came of it.
-ghost use mathlib.Core.Path.{_≡_};
 ghost use Rattle.std.specs.Of.Vec.{vec-items};
 ghost use Rattle.std.specs.Vec.{made};
 ghost use Rattle.granules.specs.Trees.{table};
@@ -34,7 +33,7 @@ pub enum Report {
     Refused(Unfit),
 }
 
-// Runs operations on a shelf of which nothing is known but its places.
+// Lays the first words on a shelf, runs the operations there, and reads off the words that are left.
 fn run<S: Shelf>(
     heap: Global,
     tree: &Tree,

@@ -1,4 +1,3 @@
-use Prim.Native.Nat.{_≤_}
 use Rattle.std.specs.Of.Vec.{vec-items}
 use Rattle.entries.specs.Numbers.{numeral}
 use Rattle.alone.specs.Inputs.{remains}

@@ -1,36 +1,37 @@
-use mathlib.Core.Path.{_≡_, sym, _∙_, ap, subst}
-use mathlib.Core.Bool.{Bool, true, false}
-use mathlib.Core.List.{List, [], _∷_, _++_}
+use mathlib.Core.Path.{_≡_, sym, subst}
+use mathlib.Core.Bool.{true, false}
+use mathlib.Core.List.{List}
 use native.Mathlib.Omega.{arith}
 use borrow.Author.Needs.{needs}
-use Prim.Native.Nat.{ℕ, _+_}
+use Prim.Native.Nat.{_+_}
 use Rattle.std.specs.Of.Vec.{vec-items}
 use Rattle.operations.specs.declared.operation.Operation.{Operation}
-use Rattle.alone.specs.Inputs.{operation, remains, spent}
+use Rattle.alone.specs.Inputs.{operation-in, remains, spent}
 use Rattle.alone.proofs.Readings.{begins, goes-on, stops, ends, kept, unread, Left}
 use Rattle.alone.proofs.input.steps.Needs as need
 
 pub loop-i-holds : need.loop-i-holds
 loop-i-holds c =
     let start = remains (c .args .line) in
-    subst (λ (xs : List Operation). Left (operation (c .args .granules)) 4 (c .args .count) start 0 xs start) (sym (c .new-operations .ensures .items))
-    (begins (operation (c .args .granules)) 4 (c .args .count) start)
+    subst (λ (xs : List Operation). Left (operation-in (c .args .granules)) 4 (c .args .count) start 0 xs start)
+    (sym (c .new-operations .ensures .items))
+    (begins (operation-in (c .args .granules)) 4 (c .args .count) start)
 
 pub loop-i-again : need.loop-i-again
 loop-i-again c =
     let start = remains (c .args .line) in
     let more =
-    goes-on (operation (c .args .granules)) 4 (c .args .count) start (c .loop-i .i) (vec-items (c .loop-i .operations)) (remains (c .loop-i .line))
+    goes-on (operation-in (c .args .granules)) 4 (c .args .count) start (c .loop-i .i) (vec-items (c .loop-i .operations)) (remains (c .loop-i .line))
     (c .in-Some .operation) (c .loop-i-test .taken) (c .in-Some .ensures tt .value) (c .loop-i .inv)
     in
-    kept (operation (c .args .granules)) 4 (c .args .count) start (c .loop-i .i + 1) (sym (c .in-Continue-push .ensures tt .items))
+    kept (operation-in (c .args .granules)) 4 (c .args .count) start (c .loop-i .i + 1) (sym (c .in-Continue-push .ensures tt .items))
     (sym (c .in-Some .ensures tt .after)) more
 
 pub returns-in-rest : need.returns-in-rest
 returns-in-rest c =
     record {
       value =
-          stops (operation (c .args .granules)) 4 (c .args .count) (remains (c .args .line)) (c .loop-i .i) (vec-items (c .loop-i .operations))
+          stops (operation-in (c .args .granules)) 4 (c .args .count) (remains (c .args .line)) (c .loop-i .i) (vec-items (c .loop-i .operations))
           (remains (c .loop-i .line)) (c .loop-i-test .taken) (c .in-rest .ensures tt .value) (c .loop-i .inv);
     }
 
@@ -43,8 +44,8 @@ returns-then-not-is-spent c =
     let t : false ≡ spent r = search needs in
     record {
       value =
-          ends (operation (c .args .granules)) 4 (c .args .count) (remains (c .args .line)) (c .loop-i .i) (vec-items (c .loop-i .operations)) r false
-          (omega arith) t (c .loop-i .inv);
+          ends (operation-in (c .args .granules)) 4 (c .args .count) (remains (c .args .line)) (c .loop-i .i)
+          (vec-items (c .loop-i .operations)) r false (omega arith) t (c .loop-i .inv);
     }
 
 pub returns : need.returns
@@ -53,6 +54,6 @@ returns c =
     let t : true ≡ spent r = search needs in
     record {
       value =
-          ends (operation (c .args .granules)) 4 (c .args .count) (remains (c .args .line)) (c .loop-i .i) (vec-items (c .loop-i .operations)) r true
-          (omega arith) t (c .loop-i .inv);
+          ends (operation-in (c .args .granules)) 4 (c .args .count) (remains (c .args .line)) (c .loop-i .i)
+          (vec-items (c .loop-i .operations)) r true (omega arith) t (c .loop-i .inv);
     }

@@ -1,8 +1,6 @@
 use mathlib.Core.Path.{sym, _∙_, ap}
 use native.Mathlib.Omega.{arith}
 use Prim.Native.Nat.{ℕ}
-use lib.ListN.{length}
-use borrow.Author.Needs.{needs}
 use Rattle.granules.specs.Trees.{table}
 use Rattle.granules.proofs.Climbs.{record-parts, record-span, other-span, span-record, span-other}
 use Rattle.granules.proofs.Kept.{size, tree-falls}
