@@ -4,7 +4,7 @@ ghost use mathlib.Core.List.{[], _∷_, _++_};
 ghost use mathlib.Core.Path.{_≡_};
 ghost use Prim.Native.Nat.{ℕ, _+_, _≤_, _<_};
 ghost use lib.Dec.{ltb};
-ghost use lib.ListN.{length};
+ghost use lib.ListN.{length, getD};
 ghost use Rattle.granules.specs.Paths.{parent, path, beneath, settled, is-record, record-beneath, records-beneath};
 ghost use Rattle.granules.specs.Trees.{table, steps, span};
 use super::Tree;
@@ -64,13 +64,21 @@ impl Tree {
         granule < self.granules
     }
 
+    // The parent that is kept of a granule that there is.
+    fn kept_parent(&self, granule: usize) -> usize
+        requires { ⌜ granule < now self .granules ⌝ }
+        ensures value { λ r. ⌜ r ≡ getD (now (self .entry) .parents) granule 0 ⌝ }
+    {
+        self.parents[granule] as usize
+    }
+
     pub fn parent(&self, granule: usize) -> usize
         ensures value { λ r. ⌜ r ≡ parent (table (now (self .entry))) granule ⌝ }
     {
         if !self.has(granule) {
             return 0;
         }
-        self.parents[granule] as usize
+        self.kept_parent(granule)
     }
 
     pub fn is_record(&self, granule: usize) -> bool
