@@ -36,6 +36,14 @@ impl Seats {
         job.state
     }
 
+    // The number that the next job gets.
+    fn next_number(&self) -> u32
+        requires { ⌜ now self .opened < 1000000 ⌝ }
+        ensures value { λ r. ⌜ r ≡ now (self .entry) .opened + 1 ⌝ }
+    {
+        self.opened + 1
+    }
+
     // The next number sits down in a free slot, working.
     pub(crate) fn sit(&mut self, slot: usize)
         requires within { ⌜ slot < 16 ⌝ }
@@ -45,7 +53,7 @@ impl Seats {
         ensures states { λ _. ⌜ now (self .exit) .states ≡ set (now (self .entry) .states) slot Working ⌝ }
         ensures opened { λ _. ⌜ now (self .exit) .opened ≡ now (self .entry) .opened + 1 ⌝ }
     {
-        let number = self.opened + 1;
+        let number = self.next_number();
         self.states[slot] = self.next(slot, Event::Open);
         self.numbers[slot] = number;
         self.opened = number;

@@ -22,12 +22,12 @@ ghost-self c =
     in (
       (length-set (t .numbers) _ _ ∙ t .full .0, length-set (t .states) _ _ ∙ t .full .1),
       (
-        distinct-new (t .opened) (t .numbers) _ _ (omega arith) (t .known) (t .apart),
+        distinct-new (t .opened) (t .numbers) _ _ (omega (arith, c .next-number-number .ensures .value)) (t .known) (t .apart),
         (
-          given-set _ (t .numbers) _ _ (omega arith) (given-more (t .opened) _ (t .numbers) (omega arith) (t .known)),
+          given-set _ (t .numbers) _ _ (omega arith) (given-more (t .opened) _ (t .numbers) (omega (arith, c .next-number-number .ensures .value)) (t .known)),
           (
             free-set (t .numbers) (t .states) _ _ _ (omega (arith, t .full .0, c .pre .within)) (omega (arith, t .full .1, c .pre .within)) (t .free)
-                (ne-eqb _ 0 (λ (z : _ ≡ 0). omega arith) ∙ sym (ap is-ended (c .next .ensures .value ∙ opens (getD (t .states) (c .args .slot) Ended) ended))),
+                (ne-eqb _ 0 (λ (z : _ ≡ 0). omega (arith, c .next-number-number .ensures .value)) ∙ sym (ap is-ended (c .next .ensures .value ∙ opens (getD (t .states) (c .args .slot) Ended) ended))),
             (
               near-set (t .states) _ _ (omega (arith, t .full .1, c .pre .within)) (t .near)
                   (subst (λ (x : Status). wanted x .granule < 256) (sym (c .next .ensures .value ∙ opens (getD (t .states) (c .args .slot) Ended) ended)) (lit< tt)),
@@ -45,7 +45,7 @@ returns c =
     sym (t .free (c .args .slot)) ∙ eq-eqb (getD (t .numbers) (c .args .slot) 0) 0 (c .pre .vacant)
     in
     record {
-      numbers = refl;
+      numbers = ap (set (t .numbers) (c .args .slot)) (c .next-number-number .ensures .value);
       states = ap (set (t .states) (c .args .slot)) (c .next .ensures .value ∙ opens (getD (t .states) (c .args .slot) Ended) ended);
-      opened = refl;
+      opened = c .next-number-number .ensures .value;
     }
