@@ -8,7 +8,7 @@ use native.Mathlib.Omega.{arith}
 use lib.Dec.{eqb, lit<}
 use lib.ListN.{length, getD, set}
 use Rattle.std.proofs.shelf.Lists.{getD-set-same, getD-set-other}
-use Rattle.std.proofs.shelf.Tests.{cases-eq, both-ways, ltb-true}
+use Rattle.std.proofs.shelf.Tests.{cases-eq, both-ways, lt-ltb, ltb-true}
 use Rattle.operations.specs.declared.operation.Operation.{Operation}
 use Rattle.ledger.specs.declared.job.Status.{Status}
 use Rattle.ledger.specs.declared.job.Status.the-variants.{Working, Waiting, Wounded, Ended}
@@ -16,7 +16,7 @@ use Rattle.ledger.specs.Jobs.{is-ended, is-open, is-wounded}
 use Rattle.ledger.specs.Ledgers.{wanted}
 use Rattle.engine.specs.declared.slot.Event.{Event}
 use Rattle.engine.specs.declared.slot.Event.the-variants.{Open, Through, Stop, Wound, Reopen, End}
-use Rattle.engine.specs.Slots.{moved, in-seat}
+use Rattle.engine.specs.Slots.{moved, walked, in-seat}
 
 -- Whoever keeps the seat ends no job and opens none, and waits only for what is near.
 pub stays-seated :
@@ -70,17 +70,23 @@ reopens (Waiting p) h = absurd (both-ways false refl h)
 reopens Wounded h = refl
 reopens Ended h = absurd (both-ways false refl h)
 
-pub goes-through : (st : Status) → is-open st ≡ true → moved st Through ≡ Working
-goes-through Working h = refl
-goes-through (Waiting p) h = refl
-goes-through Wounded h = absurd (both-ways false refl h)
-goes-through Ended h = absurd (both-ways false refl h)
+-- the state that a walk leaves an open job in
+abbrev pub tried : Operation → Bool → Status
+tried o b = elim b [ true ↦ Working | false ↦ Waiting o ]
 
-pub stops : (o : Operation) (st : Status) → is-open st ≡ true → moved st (Stop o) ≡ Waiting o
-stops o Working h = refl
-stops o (Waiting p) h = refl
-stops o Wounded h = absurd (both-ways false refl h)
-stops o Ended h = absurd (both-ways false refl h)
+pub settles : (o : Operation) (b : Bool) (st : Status) → is-open st ≡ true → moved st (walked o b) ≡ tried o b
+settles o true Working h = refl
+settles o true (Waiting p) h = refl
+settles o false Working h = refl
+settles o false (Waiting p) h = refl
+settles o true Wounded h = absurd (both-ways false refl h)
+settles o false Wounded h = absurd (both-ways false refl h)
+settles o true Ended h = absurd (both-ways false refl h)
+settles o false Ended h = absurd (both-ways false refl h)
+
+pub walked-stays : (o : Operation) (b : Bool) → o .granule < 256 → in-seat (walked o b) ≡ true
+walked-stays o true l = refl
+walked-stays o false l = lt-ltb (o .granule) 256 l
 
 -- Slots stay free just where states are ended, when both are written in one slot and agree there.
 pub free-set :

@@ -17,7 +17,7 @@ use Rattle.operations.specs.Actions.{kind}
 use Rattle.operations.specs.Words.{answer}
 use Rattle.ledger.specs.declared.job.Note.the-variants.{Nothing}
 use Rattle.ledger.specs.declared.job.Status.{Status}
-use Rattle.ledger.specs.declared.job.Status.the-variants.{Working, Waiting, Wounded, Ended}
+use Rattle.ledger.specs.declared.job.Status.the-variants.{Wounded, Ended}
 use Rattle.ledger.specs.Jobs.{Jobs, is-open, now-is, where-so}
 use Rattle.ledger.specs.Walks.{Hands, Walked, has, target, must-give-way, yields, blocks}
 use Rattle.ledger.specs.Ledgers.{Layout, attempt}
@@ -30,12 +30,12 @@ use Rattle.engine.specs.declared.core.walks.Walker.{Walker}
 use Rattle.engine.specs.declared.held.Held.{Held}
 use Rattle.engine.specs.declared.noted.Noted.{Noted}
 use Rattle.engine.specs.declared.seats.Seats.{Seats}
-use Rattle.engine.specs.declared.slot.Event.{Event}
 use Rattle.engine.specs.Grids.{cell}
 use Rattle.engine.specs.Seats.{slot}
-use Rattle.engine.specs.Slots.{moved}
+use Rattle.engine.specs.Slots.{moved, walked}
 use Rattle.engine.specs.Steps.{walk-on}
 use Rattle.engine.specs.Views.{whole, jobs-of, notes-of}
+use Rattle.engine.proofs.Slots.{tried, settles}
 use Rattle.engine.proofs.Views.{view-set}
 use Rattle.engine.proofs.Wounds.{model-eq}
 
@@ -89,33 +89,28 @@ turn-view ws seats seats′ held noted k st l n s o =
     refl
     (λ j r. ap (λ (ns : List ℕ). cell Nothing (noted .rows) (slot ns j) r) n)
 
--- the state that an attempt leaves a job in
-abbrev pub tried : Operation → Bool → Status
-tried o b = elim b [ true ↦ Working | false ↦ Waiting o ]
-
 -- A walk, and the state that follows on it, are an attempt.
 pub attempt-view :
     (s : System) (ps : List ℕ) (m : Model) (ws : List ℕ) (seats seats′ : Seats) (held : Held) (noted : Noted) (job : ℕ) (o : Operation) (kd : Kind)
-    (xs : List ℕ) (b : Bool) (e : Event) (i : ℕ)
+    (xs : List ℕ) (b : Bool) (i : ℕ)
     → kd ≡ kind (o .action) → xs ≡ path ps (o .granule)
     → walk-on s (record { job = job; kind = kd; goal = o .granule }) xs m ≡ record { left = whole ws seats held noted; complete = b }
     → is-open (m .jobs .status job) ≡ true → slot (seats .numbers) job < 16 → i ≡ slot (seats .numbers) job
-    → ((st : Status) → is-open st ≡ true → moved st e ≡ tried o b)
-    → seats′ .numbers ≡ seats .numbers → seats′ .states ≡ set (seats .states) i (moved (getD (seats .states) i Ended) e) → seats′ .opened ≡ seats .opened
+    → seats′ .numbers ≡ seats .numbers → seats′ .states ≡ set (seats .states) i (moved (getD (seats .states) i Ended) (walked o b)) → seats′ .opened ≡ seats .opened
     → attempt model-hands (record { system = s; parents = ps }) job o m ≡ record { left = whole ws seats′ held noted; complete = b }
-attempt-view s ps m ws seats seats′ held noted job o kd xs b e i ke xe walked open-then l ie next n st op =
+attempt-view s ps m ws seats seats′ held noted job o kd xs b i ke xe went open-then l ie n st op =
     let w : Walker = record { job = job; kind = kd; goal = o .granule } in
     let at = slot (seats .numbers) job in
     let opened : is-open (getD (seats .states) at Ended) ≡ true =
-    ap (λ (r : Walked Model). is-open (r .left .jobs .status job)) (sym walked) ∙ ap is-open (walk-own s w xs m) ∙ open-then
+    ap (λ (r : Walked Model). is-open (r .left .jobs .status job)) (sym went) ∙ ap is-open (walk-own s w xs m) ∙ open-then
     in
     let after-it : seats′ .states ≡ set (seats .states) at (tried o b) =
     st
-    ∙ ap (λ (j : ℕ). set (seats .states) j (moved (getD (seats .states) j Ended) e)) ie
-    ∙ ap (set (seats .states) at) (next (getD (seats .states) at Ended) opened)
+    ∙ ap (λ (j : ℕ). set (seats .states) j (moved (getD (seats .states) j Ended) (walked o b))) ie
+    ∙ ap (set (seats .states) at) (settles o b (getD (seats .states) at Ended) opened)
     in
     ap₂ (λ (k : Kind) (ys : List ℕ). ending (walk-on s (record { job = job; kind = k; goal = o .granule }) ys m)) (sym ke) (sym xe)
-    ∙ ap ending walked
+    ∙ ap ending went
     ∙ ap (λ (n : Model). record { left = n; complete = b }) (sym (turn-view ws seats seats′ held noted job (tried o b) l n after-it op))
   where
     ending : Walked Model → Walked Model

@@ -34,6 +34,11 @@ moved Ended Wound = Ended
 moved Ended Reopen = Ended
 moved Ended End = Ended
 
+-- What a walk for an operation comes to: the job is through with it, or stops.
+abbrev pub walked : Operation → Bool → Event
+walked o true = Through
+walked o false = Stop o
+
 -- What happens to a job while it sits: all but sitting down and getting up. It waits only for what is on one of the 256
 -- granules.
 abbrev pub in-seat : Event → Bool

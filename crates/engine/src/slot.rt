@@ -1,6 +1,6 @@
 // How the state of the job in a slot moves.
 ghost use mathlib.Core.Path.{_≡_};
-ghost use Rattle.engine.specs.Slots.{moved};
+ghost use Rattle.engine.specs.Slots.{moved, walked};
 use ledger::Status;
 use operations::Operation;
 
@@ -19,6 +19,19 @@ pub enum Event {
     Reopen,
     // it commits or gives up
     End,
+}
+
+impl Event {
+    // What a walk for an operation comes to.
+    pub fn of_walk(operation: Operation, complete: bool) -> Event
+        ensures value { λ r. ⌜ r ≡ walked operation complete ⌝ }
+    {
+        if complete {
+            Event::Through
+        } else {
+            Event::Stop(operation)
+        }
+    }
 }
 
 // The job in a slot, by its state. A slot whose job has ended is free.

@@ -46,12 +46,9 @@ impl<S: Shelf> Core<S> {
         };
         let path = tree.path(goal);
         let slot = self.seats.slot_of(job);
-        if !self.walk(system, walker, &path) {
-            self.seats.turn(slot, Event::Stop(operation));
-            return false;
-        }
-        self.seats.turn(slot, Event::Through);
-        true
+        let complete = self.walk(system, walker, &path);
+        self.seats.turn(slot, Event::of_walk(operation, complete));
+        complete
     }
 
     // Does the work of an operation on the shelf.

@@ -4,6 +4,7 @@ use Prim.Native.Nat.{ℕ, suc, _-_, _<_}
 use Rattle.engine.specs.Seats.{next-above}
 use Rattle.engine.proofs.Meetings.{Reached, far, begin, has-slot, nearer-end, again, end}
 use Rattle.engine.proofs.core.Core.wound_younger.Needs as need
+use Rattle.engine.proofs.core.Core.wound_younger.Needs.{After-next-above-job-in-loop-job, at·loop-job-less, at·loop-job-again}
 
 pub loop-job-holds : need.loop-job-holds
 loop-job-holds g c =
@@ -21,6 +22,13 @@ meet-requires g c κs =
       granule = c .pre;
     }
 
+-- the next job, by the numbers that there were at the start
+next-is :
+    (g : _) (c : need.After-next-above-job-in-loop-job g)
+    → c .next-above-job-in-loop-job .result ≡ next-above (c .loop-job .job) (c .args .self .now .seats .numbers)
+next-is g c =
+    c .next-above-job-in-loop-job .ensures .value ∙ ap (next-above (c .loop-job .job)) (c .meet .ensures .numbers ∙ c .loop-job .inv .numbers)
+
 pub loop-job-less : need.loop-job-less
 loop-job-less g c =
     let start = c .args .self .now in
@@ -29,25 +37,17 @@ loop-job-less g c =
     nearer-end (g .M·ModeSystem .meaning) (g .M·ModeSystem·met .lawful) (g .S·Shelf .words) start (c .args .asker) (c .args .granule) (c .args .target)
     (c .loop-job .self) job (c .loop-job-test .taken) (c .loop-job .inv)
     in
-    let next : c .next-above-job-in-loop-job .result ≡ next-above job (start .seats .numbers) =
-    c .next-above-job-in-loop-job .ensures .value
-    ∙ ap (next-above job) (c .meet .ensures .numbers ∙ c .loop-job .inv .numbers)
-    in
     let less : suc (start .seats .opened) - far (start .seats .opened) (next-above job (start .seats .numbers)) < suc (start .seats .opened) - far (start .seats .opened) job =
     omega (arith, near .0, near .1, near .2)
     in
-    subst (λ (j : ℕ). suc (start .seats .opened) - far (start .seats .opened) j < suc (start .seats .opened) - far (start .seats .opened) job) (sym next) less
+    subst (λ (j : ℕ). suc (start .seats .opened) - far (start .seats .opened) j < suc (start .seats .opened) - far (start .seats .opened) job) (sym (next-is g (at·loop-job-less g c .After-next-above-job-in-loop-job))) less
 
 pub loop-job-again : need.loop-job-again
 loop-job-again g c =
     let start = c .args .self .now in
     let job = c .loop-job .job in
-    let next : c .next-above-job-in-loop-job .result ≡ next-above job (start .seats .numbers) =
-    c .next-above-job-in-loop-job .ensures .value
-    ∙ ap (next-above job) (c .meet .ensures .numbers ∙ c .loop-job .inv .numbers)
-    in
     subst (λ (j : ℕ). Reached (g .M·ModeSystem .meaning) (g .M·ModeSystem·met .lawful) (g .S·Shelf .words) start (c .args .asker) (c .args .granule) (c .args .target) (c .meet .last .self) j)
-    (sym next)
+    (sym (next-is g (at·loop-job-again g c .After-next-above-job-in-loop-job)))
     (again (g .M·ModeSystem .meaning) (g .M·ModeSystem·met .lawful) (g .S·Shelf .words) start (c .args .asker) (c .args .granule) (c .args .target)
     (c .loop-job .self) (c .meet .last .self) job (c .loop-job-test .taken) (c .loop-job .inv) (c .meet .ensures .numbers) (c .meet .ensures .model))
 
