@@ -84,8 +84,7 @@ tally-all :
 tally-all [] n x h = all-none n
 tally-all (row ∷ rows) n x h =
     all-plus n (one (getD row x 0)) (tally rows x)
-    ∙ omega
-    (
+    ∙ omega (
       arith,
       one-all n (getD row x 0) (h 0 (omega arith)),
       tally-all rows n x (λ i l. h (suc i) (omega arith)),
@@ -151,8 +150,7 @@ module _ {S : Type 0} (c : Core S) (x : ℕ) (inside : x < 256) where
             let l : i < length numbers = omega (arith, r .1, c .held .full, c .seats .full .0) in
             let taken : getD numbers i 0 ≡ 0 → ⊥ = λ z. some (sym is ∙ c .unlocked i x z) in
             let k = getD numbers i 0 in
-            inr
-            (
+            inr (
               k,
               omega (arith, seated-given (c .seats) k (among-at numbers i l)),
               ap (λ (j : ℕ). cell 0 rows j x) (slot-own-number numbers i l (c .seats .apart) taken)

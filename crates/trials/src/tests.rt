@@ -177,7 +177,10 @@ fn layings_that_are_refused(rt: LibcRuntime) -> Result<(), Fail> {
     let deep_and_wrong = [0, 0, 1, 2, 3, 4, 5, 6, 8];
     check_eq(engine.open(), Err(Refusal::NotLaidOut))?;
     check_eq(engine.lay(&[], &[]), Err(Refusal::Table(Unfit::Lengths)))?;
-    check_eq(engine.lay(&[1], &[1, 2]), Err(Refusal::Table(Unfit::Lengths)))?;
+    check_eq(
+        engine.lay(&[1], &[1, 2]),
+        Err(Refusal::Table(Unfit::Lengths)),
+    )?;
     check_eq(engine.lay(&[1], &[1]), Err(Refusal::Table(Unfit::Parent)))?;
     check_eq(
         engine.lay(&deep_and_wrong, &[0; 9]),

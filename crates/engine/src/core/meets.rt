@@ -30,13 +30,7 @@ impl<S: Shelf> Core<S> {
     }
 
     // Every younger job that is in the way is wounded, the oldest of them first.
-    fn wound_younger<M: ModeSystem>(
-        &mut self,
-        system: &M,
-        asker: u32,
-        granule: usize,
-        target: u8,
-    )
+    fn wound_younger<M: ModeSystem>(&mut self, system: &M, asker: u32, granule: usize, target: u8)
         requires { ⌜ granule < 256 ⌝ }
         ensures model { λ _. ⌜ model (S·Shelf .words) (now (self .exit)) ≡ model-hands .wound (yields (M·ModeSystem .meaning) (jobs-of (now (self .entry) .seats) (now (self .entry) .held)) asker granule target) (model (S·Shelf .words) (now (self .entry))) ⌝ }
         ensures numbers { λ _. ⌜ now (self .exit) .seats .numbers ≡ now (self .entry) .seats .numbers ⌝ }
@@ -72,13 +66,7 @@ impl<S: Shelf> Core<S> {
     }
 
     // Whether an older job is in the way.
-    fn is_held_up<M: ModeSystem>(
-        &self,
-        system: &M,
-        asker: u32,
-        granule: usize,
-        target: u8,
-    ) -> bool
+    fn is_held_up<M: ModeSystem>(&self, system: &M, asker: u32, granule: usize, target: u8) -> bool
         requires { ⌜ granule < 256 ⌝ }
         ensures value { λ r. ⌜ r ≡ some-below asker (blocks (M·ModeSystem .meaning) (jobs-of (now (self .entry) .seats) (now (self .entry) .held)) asker granule target) ⌝ }
     {
