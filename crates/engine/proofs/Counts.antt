@@ -52,13 +52,13 @@ count-one (suc n) p q x l e h =
           omega arith
     ]
 
-pub count-all : (n : ℕ) (f : ℕ → Bool) → ((k : ℕ) → k < n → f k ≡ true) → count-below n f ≡ n
+count-all : (n : ℕ) (f : ℕ → Bool) → ((k : ℕ) → k < n → f k ≡ true) → count-below n f ≡ n
 count-all zero f h = refl
 count-all (suc n) f h =
     let last : cond {A = ℕ} (f n) 1 0 ≡ 1 = cond-true (f n) 1 0 (h n (omega arith)) in
     omega (arith, count-all n f (λ k l. h k (omega arith)))
 
-pub count-lacks : (n : ℕ) (f : ℕ → Bool) (k : ℕ) → k < n → f k ≡ false → count-below n f < n
+count-lacks : (n : ℕ) (f : ℕ → Bool) (k : ℕ) → k < n → f k ≡ false → count-below n f < n
 count-lacks zero f k l e = absurd (omega arith)
 count-lacks (suc n) f k l e =
     elim (cases-eq k n) [

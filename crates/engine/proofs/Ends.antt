@@ -6,10 +6,9 @@ use mathlib.Core.List.{List, []}
 use Prim.Native.Nat.{ℕ, suc, _+_, _<_, _≤_}
 use native.Mathlib.Omega.{arith}
 use native.Mathlib.Numerals.{add-one}
-use lib.Dec.{eqb}
 use lib.ListN.{length, getD, set, replicate}
 use Rattle.std.proofs.shelf.Lists.{getD-set-same, getD-set-other, getD-past, length-set}
-use Rattle.std.proofs.shelf.Tests.{cases-eq, cases-lt, both-ways, eq-eqb, ne-eqb}
+use Rattle.std.proofs.shelf.Tests.{cases-eq, cases-lt, both-ways}
 use Rattle.granules.specs.Paths.{among}
 use Rattle.ledger.specs.declared.job.Note.{Note}
 use Rattle.ledger.specs.declared.job.Note.the-variants.{Nothing}
@@ -24,7 +23,7 @@ use Rattle.engine.specs.declared.noted.Noted.{Noted}
 use Rattle.engine.specs.declared.seats.Seats.{Seats}
 use Rattle.engine.specs.Ends.{with-one-more, without-job}
 use Rattle.engine.specs.Grids.{cell, is-nothing}
-use Rattle.engine.specs.Seats.{place, slot, distinct}
+use Rattle.engine.specs.Seats.{slot, distinct}
 use Rattle.engine.specs.Views.{whole}
 use Rattle.engine.proofs.Places.{place-set-other, place-set-new, among-gone, new-among, place-among}
 use Rattle.engine.proofs.Views.{slot-none, slot-some, slot-number, slot-own}

@@ -1,8 +1,8 @@
 -- The counts of a granule say who holds it: their sum is the number of holders, and the join of the modes counted is the
 -- group mode.
-use mathlib.Core.Path.{_≡_, refl, sym, _∙_, ap, subst}
+use mathlib.Core.Path.{_≡_, refl, sym, _∙_, ap}
 use mathlib.Core.Logic.{inl, inr}
-use mathlib.Core.Bool.{Bool, true, false, not, cond}
+use mathlib.Core.Bool.{Bool, true, not, cond}
 use mathlib.Core.List.{List, [], _∷_}
 use Prim.Native.Nat.{ℕ, zero, suc, _+_, _<_, _≤_}
 use native.Mathlib.Omega.{arith}
@@ -11,14 +11,14 @@ use lib.ListN.{length, getD}
 use Rattle.std.specs.shelf.Lists.{sum}
 use Rattle.std.proofs.shelf.Lists.{getD-past}
 use Rattle.std.proofs.shelf.Sums.{sumBy-cons}
-use Rattle.std.proofs.shelf.Tests.{cases-eq, cases-lt, both-ways, not-from-true, not-from-false, cond-true, cond-false, eq-eqb, ne-eqb}
+use Rattle.std.proofs.shelf.Tests.{cases-eq, cases-lt, not-from-true, not-from-false, cond-true, cond-false, eq-eqb, ne-eqb}
 use Rattle.modes.specs.Systems.{System, Lawful}
 use Rattle.granules.specs.Below.{sum-below, count-below}
 use Rattle.ledger.specs.Jobs.{Jobs}
 use Rattle.ledger.specs.Promises.{group, holders}
 use Rattle.engine.specs.declared.core.Core.{Core}
 use Rattle.engine.specs.Grids.{cell}
-use Rattle.engine.specs.Heads.{one, tally, join-below, if-held, group-of}
+use Rattle.engine.specs.Heads.{one, tally, if-held, group-of}
 use Rattle.engine.specs.Seats.{slot}
 use Rattle.engine.specs.Views.{jobs-of}
 use Rattle.engine.proofs.Counts.{count-front, seat-count}

@@ -1,6 +1,5 @@
 -- Tables with no job in them, and first words put one after the other.
 use mathlib.Core.Path.{_≡_, refl, sym, _∙_, ap}
-use mathlib.Core.Bool.{true}
 use mathlib.Core.List.{List, [], _∷_}
 use Prim.Native.Nat.{ℕ, zero, suc, _+_, _<_}
 use native.Mathlib.Omega.{arith}
@@ -14,7 +13,7 @@ use Rattle.ledger.specs.Models.{fresh}
 use Rattle.engine.specs.declared.held.Held.{Held}
 use Rattle.engine.specs.declared.noted.Noted.{Noted}
 use Rattle.engine.specs.declared.seats.Seats.{Seats}
-use Rattle.engine.specs.Grids.{cell, is-nothing}
+use Rattle.engine.specs.Grids.{cell}
 use Rattle.engine.specs.Seats.{slot}
 use Rattle.engine.specs.States.{over}
 use Rattle.engine.specs.Views.{whole}

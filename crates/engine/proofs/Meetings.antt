@@ -1,5 +1,5 @@
 -- Who is in the way of a job that asks for a lock, and how far the wounding of the younger ones has come.
-use mathlib.Core.Path.{_≡_, refl, sym, _∙_, ap}
+use mathlib.Core.Path.{_≡_, refl, _∙_, ap}
 use mathlib.Core.Logic.{inl, inr}
 use mathlib.Core.Bool.{Bool, true, false, not, _&&_, cond}
 use mathlib.Core.List.{List, []}
@@ -23,8 +23,8 @@ use Rattle.engine.specs.Grids.{cell}
 use Rattle.engine.specs.Meetings.{holds-up-at}
 use Rattle.engine.specs.Seats.{slot, next-above}
 use Rattle.engine.specs.Views.{model, jobs-of}
-use Rattle.engine.specs.Wounds.{wounded-one, wounded-if}
-use Rattle.engine.proofs.Places.{Nearest, next-nearest}
+use Rattle.engine.specs.Wounds.{wounded-if}
+use Rattle.engine.proofs.Places.{next-nearest}
 use Rattle.engine.proofs.Views.{seated-given, slot-number, slot-among, among-slot, slot-own-number}
 use Rattle.engine.proofs.Wounds.{upto, upto-here, wounded-upto, skip, start, one, all}
 

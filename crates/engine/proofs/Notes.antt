@@ -5,7 +5,7 @@ use mathlib.Core.Bool.{true, false}
 use mathlib.Core.List.{List, []}
 use Prim.Native.Nat.{ℕ, _<_}
 use native.Mathlib.Omega.{arith}
-use lib.ListN.{length, getD, set}
+use lib.ListN.{getD, set}
 use Rattle.std.proofs.shelf.Tests.{cases-bool}
 use Rattle.modes.specs.declared.kind.Kind.the-variants.{Read as Reading}
 use Rattle.modes.specs.Systems.{System}

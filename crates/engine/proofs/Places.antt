@@ -8,7 +8,7 @@ use native.Mathlib.Omega.{arith}
 use lib.Dec.{eqb, ltb, leb}
 use lib.ListN.{length, getD, set}
 use Rattle.std.proofs.shelf.Lists.{getD-past}
-use Rattle.std.proofs.shelf.Tests.{cases-eq, cases-lt, cases-bool, and-parts, and-left, and-right, cond-true, cond-false, lt-ltb, le-ltb, and-from, or-cases, or-left, or-right, or-parts, or-from, both-ways, not-true, not-from-false, eq-eqb, ne-eqb, eqb-true, le-leb, leb-true}
+use Rattle.std.proofs.shelf.Tests.{cases-eq, cases-lt, and-parts, and-left, and-right, cond-true, cond-false, lt-ltb, le-ltb, and-from, or-cases, or-left, or-right, or-parts, or-from, both-ways, not-true, not-from-false, eq-eqb, ne-eqb, eqb-true, le-leb, leb-true}
 use Rattle.std.specs.Iters.{folded}
 use Rattle.granules.specs.Paths.{among}
 use Rattle.engine.specs.Seats.{place, slot, distinct, all-given, nearer, next-above}

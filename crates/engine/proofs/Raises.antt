@@ -3,7 +3,6 @@ use mathlib.Core.Path.{_≡_, refl, sym, _∙_, ap}
 use mathlib.Core.List.{List}
 use Prim.Native.Nat.{ℕ, _<_}
 use native.Mathlib.Omega.{arith}
-use lib.ListN.{length}
 use Rattle.ledger.specs.Jobs.{raise}
 use Rattle.ledger.specs.Walks.{Hands}
 use Rattle.ledger.specs.Models.{model-hands}

@@ -1,5 +1,5 @@
 -- An operation that is carried out answers in the shape that its action has.
-use mathlib.Core.Path.{_≡_, refl, sym, _∙_, ap, subst}
+use mathlib.Core.Path.{_≡_, refl, _∙_, ap, subst}
 use mathlib.Core.Bool.{Bool, true, false}
 use Prim.Native.Nat.{ℕ}
 use native.Mathlib.Omega.{arith}
@@ -14,7 +14,7 @@ use Rattle.operations.specs.declared.operation.Operation.{Operation}
 use Rattle.operations.specs.declared.operation.Outcome.{Outcome}
 use Rattle.operations.specs.Words.{sum, told, answer}
 use Rattle.ledger.specs.declared.call.Answer.{Answer}
-use Rattle.ledger.specs.declared.call.Answer.the-variants.{Told, Waits, Refused}
+use Rattle.ledger.specs.declared.call.Answer.the-variants.{Told, Waits}
 use Rattle.ledger.specs.declared.call.Call.the-variants.{Carry}
 use Rattle.ledger.specs.declared.refusal.Refusal.{Refusal}
 use Rattle.ledger.specs.Refusals.{refusal}

@@ -53,7 +53,7 @@ module _ (s : System) (law : Lawful s) (ps first : List ℕ) (h : List Event) (m
       }
 
 -- the promise holds of every history that is kept
-pub held-to : (s : System) → Lawful s → (ps first : List ℕ) (h : List Event) (m : Model)
+held-to : (s : System) → Lawful s → (ps first : List ℕ) (h : List Event) (m : Model)
     → Has-history (record { system = s; parents = ps }) first h m → Promise (record { system = s; parents = ps }) first h (m .words)
 held-to s law ps first h m k =
     let y : Layout = record { system = s; parents = ps } in
@@ -134,7 +134,7 @@ module _ (s : System) (c : Call) (ws : List ℕ) (st : State) where
       absurd (omega arith)
   done-by None e = (refl, sym (ap (λ (x : Stepped). x .left) e))
 
-  pub lay-done : step s c (bare ws) ≡ record { left = st; said = Told Done } → (refusal (nothing-yet ws) c ≡ None) × (st ≡ laid-by c ws)
+  lay-done : step s c (bare ws) ≡ record { left = st; said = Told Done } → (refusal (nothing-yet ws) c ≡ None) × (st ≡ laid-by c ws)
   lay-done e = done-by (refusal (nothing-yet ws) c) e
 
   refused-by : (r : Refusal) (o : Option Refusal) → first-call o c ws ≡ record { left = st; said = Refused r } → (o ≡ Some r) × (st ≡ bare ws)

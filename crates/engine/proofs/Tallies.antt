@@ -1,7 +1,7 @@
 -- Counts of those who hold a mode.
 use mathlib.Core.Path.{_≡_, refl, sym, _∙_, ap}
 use mathlib.Core.Logic.{inl, inr}
-use mathlib.Core.Bool.{Bool, true, false, not, _&&_, cond}
+use mathlib.Core.Bool.{Bool, true, not, _&&_}
 use mathlib.Core.List.{List, [], _∷_}
 use Prim.Native.Nat.{ℕ, zero, suc, _+_, _<_, _≤_}
 use native.Mathlib.Omega.{arith}
@@ -29,7 +29,7 @@ one-none m =
       | inr e ↦ one-other 0 m (λ (z : 0 ≡ m). e (sym z))
     ]
 
-pub one-le : (h m : ℕ) → one h m ≤ 1
+one-le : (h m : ℕ) → one h m ≤ 1
 one-le h m =
     let b = not (eqb m 0) && eqb h m in
     elim (cases-bool b) [
@@ -43,7 +43,7 @@ tally-le [] x m = omega arith
 tally-le (row ∷ rows) x m = omega (arith, one-le (getD row x 0) m, tally-le rows x m)
 
 -- who holds a mode is counted
-pub tally-has : (rows : List (List ℕ)) (s x m : ℕ) → s < length rows → one (cell 0 rows s x) m ≤ tally rows x m
+tally-has : (rows : List (List ℕ)) (s x m : ℕ) → s < length rows → one (cell 0 rows s x) m ≤ tally rows x m
 tally-has [] s x m l = absurd (omega arith)
 tally-has (row ∷ rows) zero x m l = omega arith
 tally-has (row ∷ rows) (suc s) x m l = omega (arith, tally-has rows s x m (omega arith))
@@ -60,12 +60,12 @@ tally-some (row ∷ rows) x m l =
 tally-blank-row : (row : List ℕ) (rows : List (List ℕ)) (x m : ℕ) → getD row x 0 ≡ 0 → tally (row ∷ rows) x m ≡ tally rows x m
 tally-blank-row row rows x m e = omega (arith, ap (λ (h : ℕ). one h m) e, one-none m)
 
-pub tally-blank : (n : ℕ) (x m : ℕ) → tally (replicate n (replicate 256 0)) x m ≡ 0
+tally-blank : (n : ℕ) (x m : ℕ) → tally (replicate n (replicate 256 0)) x m ≡ 0
 tally-blank zero x m = refl
 tally-blank (suc n) x m = tally-blank-row (replicate 256 0) (replicate n (replicate 256 0)) x m (empty 256 0 x) ∙ tally-blank n x m
 
 -- One row written for another.
-pub tally-set :
+tally-set :
     (rows : List (List ℕ)) (s : ℕ) (row : List ℕ) (x m : ℕ) → s < length rows
     → tally (set rows s row) x m + one (cell 0 rows s x) m ≡ tally rows x m + one (getD row x 0) m
 tally-set [] s row x m l = absurd (omega arith)

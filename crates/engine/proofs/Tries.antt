@@ -34,7 +34,7 @@ use Rattle.engine.specs.Grids.{cell}
 use Rattle.engine.specs.Seats.{slot}
 use Rattle.engine.specs.Slots.{moved, walked}
 use Rattle.engine.specs.Steps.{walk-on}
-use Rattle.engine.specs.Views.{whole, jobs-of, notes-of}
+use Rattle.engine.specs.Views.{whole, jobs-of}
 use Rattle.engine.proofs.Slots.{tried, settles}
 use Rattle.engine.proofs.Views.{view-set}
 use Rattle.engine.proofs.Wounds.{model-eq}
@@ -56,7 +56,7 @@ module _ (s : System) (w : Walker) where
       (ap must-give-way (judged-self s (w .job) (wants m x) (w .job) (own m x) refl))
 
   -- A walk leaves the state of the job that walks.
-  pub walk-own : (xs : List ℕ) (m : Model) → state (walk-on s w xs m) ≡ m .jobs .status (w .job)
+  walk-own : (xs : List ℕ) (m : Model) → state (walk-on s w xs m) ≡ m .jobs .status (w .job)
   walk-own [] m = refl
   walk-own (x ∷ xs) m =
       let rest : (n : Model) → state (walk-on s w xs n) ≡ n .jobs .status (w .job) = walk-own xs in

@@ -20,7 +20,7 @@ use Rattle.engine.specs.declared.core.Core.{Core}
 use Rattle.engine.specs.Grids.{cell}
 use Rattle.engine.specs.Seats.{slot}
 use Rattle.engine.specs.Views.{model}
-use Rattle.engine.specs.Wounds.{wounded-one, wounded-if}
+use Rattle.engine.specs.Wounds.{wounded-one}
 use Rattle.engine.proofs.Views.{view-set, view-wiped}
 
 -- models that agree in all parts

@@ -1,5 +1,5 @@
 -- What is laid out, and what an operation comes to.
-use Prim.Native.Nat.{ℕ}
+
 use Rattle.modes.specs.Systems.{System}
 use Rattle.granules.specs.declared.tree.Tree.{Tree}
 use Rattle.granules.specs.Trees.{table}

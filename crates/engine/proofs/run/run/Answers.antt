@@ -4,7 +4,7 @@ use native.Mathlib.Omega.{arith}
 use borrow.Author.Needs.{needs}
 use Prim.Native.Nat.{ℕ, _+_}
 use lib.ListN.{length, take}
-use Rattle.std.specs.Of.Vec.{vec-items, vec-len, vec-cap}
+use Rattle.std.specs.Of.Vec.{vec-items}
 use Rattle.std.proofs.shelf.Lists.{take-all}
 use Rattle.ledger.specs.declared.call.Answer.{Answer}
 use Rattle.ledger.specs.declared.call.Call.{Call}

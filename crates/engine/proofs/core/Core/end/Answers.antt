@@ -2,7 +2,7 @@ use mathlib.Core.Path.{_≡_, refl, sym, _∙_, ap}
 use mathlib.Core.Bool.{true}
 use mathlib.Core.List.{List}
 use Prim.Native.Nat.{ℕ}
-use lib.ListN.{getD, set}
+use lib.ListN.{getD}
 use Rattle.std.proofs.shelf.Lists.{getD-set-other}
 use Rattle.ledger.specs.declared.job.Note.{Note}
 use Rattle.ledger.specs.declared.job.Note.the-variants.{Nothing}

@@ -1,4 +1,4 @@
-use mathlib.Core.Path.{_≡_, refl, sym, _∙_, ap, subst}
+use mathlib.Core.Path.{_≡_, sym, _∙_, ap, subst}
 use Prim.Native.Nat.{_<_}
 use Rattle.ledger.specs.declared.job.Status.{Status}
 use Rattle.ledger.specs.Jobs.{is-ended, is-open}

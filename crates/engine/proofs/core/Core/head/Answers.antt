@@ -1,6 +1,5 @@
-use mathlib.Core.Path.{_≡_, sym, _∙_, ap}
+use mathlib.Core.Path.{_≡_, _∙_, ap}
 use mathlib.Core.List.{List}
-use Prim.Native.Nat.{ℕ}
 use Rattle.std.specs.shelf.Lists.{sum}
 use Rattle.engine.proofs.Heads.{group-agrees, holders-agree}
 use Rattle.engine.proofs.core.Core.head.Needs as need

@@ -1,8 +1,8 @@
-use mathlib.Core.Path.{_≡_, refl, sym, _∙_, ap, ap₂, subst}
+use mathlib.Core.Path.{_≡_, refl, _∙_, ap}
 use mathlib.Core.List.{List, []}
 use native.Mathlib.Omega.{arith}
 use Prim.Native.Nat.{ℕ, _+_, _≤_}
-use lib.ListN.{length, getD, set}
+use lib.ListN.{getD, set}
 use Rattle.ledger.specs.declared.job.Note.{Note}
 use Rattle.ledger.specs.declared.job.Note.the-variants.{Nothing}
 use Rattle.ledger.specs.Models.{back}

@@ -1,5 +1,4 @@
 use mathlib.Core.Path.{_≡_}
-use Prim.Native.Nat.{ℕ}
 use Rattle.ledger.specs.declared.job.Note.the-variants.{Nothing}
 use Rattle.ledger.specs.Models.{back}
 use Rattle.operations.specs.Words.{each-from}

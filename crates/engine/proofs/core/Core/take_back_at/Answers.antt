@@ -1,5 +1,4 @@
 use mathlib.Core.Path.{_≡_, refl, sym, _∙_, ap}
-use Prim.Native.Nat.{ℕ}
 use lib.ListN.{getD, set}
 use Rattle.std.proofs.shelf.Lists.{set-getD, set-past}
 use Rattle.ledger.specs.declared.job.Note.{Note}

@@ -1,7 +1,7 @@
 use mathlib.Core.Path.{_≡_, sym, _∙_, ap}
 use lib.ListN.{getD, set}
 use Rattle.ledger.specs.declared.job.Status.{Status}
-use Rattle.ledger.specs.declared.job.Status.the-variants.{Wounded, Ended}
+use Rattle.ledger.specs.declared.job.Status.the-variants.{Ended}
 use Rattle.engine.specs.Seats.{slot}
 use Rattle.engine.proofs.Slots.{wounds}
 use Rattle.engine.proofs.Views.{seated-lives}

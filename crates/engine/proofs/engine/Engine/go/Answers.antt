@@ -1,5 +1,4 @@
 use Rattle.ledger.specs.declared.call.Call.the-variants.{Go}
-use Rattle.engine.specs.Turns.{layout}
 use Rattle.engine.proofs.Serves.{laid-serves}
 use Rattle.engine.proofs.engine.Engine.go.Needs as need
 

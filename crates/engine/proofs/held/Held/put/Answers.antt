@@ -1,11 +1,10 @@
-use mathlib.Core.Path.{_≡_, sym, _∙_}
+use mathlib.Core.Path.{_≡_, _∙_}
 use mathlib.Core.List.{[]}
 use native.Mathlib.Omega.{arith}
-use Prim.Native.Nat.{ℕ, _+_, _<_}
-use lib.ListN.{length, getD, set}
+use Prim.Native.Nat.{_+_, _<_}
+use lib.ListN.{length}
 use Rattle.std.proofs.shelf.Lists.{length-set}
 use Rattle.engine.specs.Grids.{cell}
-use Rattle.engine.specs.Heads.{one, tally}
 use Rattle.engine.proofs.Grids.{long-at, long-put, long-set}
 use Rattle.engine.proofs.Tallies.{agree-put, held-small, held-counted, tally-le}
 use Rattle.engine.proofs.held.Held.put.Needs as need

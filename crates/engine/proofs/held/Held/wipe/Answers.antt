@@ -1,10 +1,10 @@
-use mathlib.Core.Path.{_≡_, refl, sym, _∙_, ap, subst}
+use mathlib.Core.Path.{_≡_, sym, _∙_, ap, subst}
 use mathlib.Core.List.{List, []}
 use native.Mathlib.Omega.{arith}
 use Prim.Native.Nat.{ℕ, _+_, _<_}
-use lib.ListN.{length, getD, set, replicate}
+use lib.ListN.{length, set, replicate}
 use Rattle.std.proofs.shelf.Lists.{set-set}
-use Rattle.engine.specs.Grids.{cell, with-cell}
+use Rattle.engine.specs.Grids.{cell}
 use Rattle.engine.proofs.Grids.{long-at, wiped-more, wiped-all}
 use Rattle.engine.proofs.held.Held.wipe.Needs as need
 
