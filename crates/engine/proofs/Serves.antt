@@ -20,9 +20,9 @@ use Rattle.ledger.specs.Promises.{Promise}
 use Rattle.ledger.specs.Models as models
 use Rattle.ledger.specs.Models.{Model, fresh, serve, history, served, grant, refused-or}
 use Rattle.ledger.proofs.Promised.{promise-kept}
-use Rattle.engine.specs.declared.core.Core.{Core}
-use Rattle.engine.specs.Turns.{layout}
-use Rattle.engine.specs.Views.{model}
+use Rattle.tables.specs.declared.core.Core.{Core}
+use Rattle.tables.specs.Turns.{layout}
+use Rattle.tables.specs.Views.{model}
 use Rattle.engine.specs.States.{State, state-by, first-call, laid-by, nothing-yet, bare, laid, Stepped, step, Has-history, Keeps, Promised, Served, words-of}
 
 -- one call more
@@ -76,14 +76,6 @@ serves s law c (laid ps m) after a e =
           subst (λ (r : Stepped). Promised s (r .left) first (h ++ (c, r .said) ∷ [])) e
           (held-to s law ps first (h ++ (c, serve y c m .said) ∷ []) (serve y c m .left) (goes-on s law ps first h m c k));
     }
-
--- a call by the row of the table
-module _ (y : Layout) (c : Call) (m : Model) where
-  pub denied : (r : Refusal) → refusal (facts y (m .jobs)) c ≡ Some r → serve y c m ≡ record { left = m; said = Refused r }
-  denied r e = ap (λ (o : Option Refusal). refused-or o m (grant y c m)) e
-
-  pub admitted : (x : models.Served) → refusal (facts y (m .jobs)) c ≡ None → grant y c m ≡ x → serve y c m ≡ x
-  admitted x e f = ap (λ (o : Option Refusal). refused-or o m (grant y c m)) e ∙ f
 
 -- An engine that is laid out does what its tables do.
 pub laid-serves :

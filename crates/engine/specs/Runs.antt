@@ -13,7 +13,8 @@ use Rattle.ledger.specs.declared.refusal.Refusal.{Refusal}
 use Rattle.ledger.specs.Refusals.{refusal}
 use Rattle.ledger.specs.Ledgers.{together}
 use Rattle.ledger.specs.Promises.{Promise}
-use Rattle.engine.specs.States.{nothing-yet, over}
+use Rattle.tables.specs.Views.{over}
+use Rattle.engine.specs.States.{nothing-yet}
 
 -- The laying, on a shelf with the words `before`, was refused as the table says, and the shelf's words stay; or it was done,
 -- each of the calls was answered, and the promise holds of the calls with their answers and of the words `now`.

@@ -23,9 +23,9 @@ use Rattle.ledger.specs.Refusals.{Facts, refusal}
 use Rattle.ledger.specs.Ledgers.{Layout, Event}
 use Rattle.ledger.specs.Promises.{Promise}
 use Rattle.ledger.specs.Models.{Model, fresh, serve, history, served}
-use Rattle.engine.specs.declared.core.Core.{Core}
+use Rattle.tables.specs.declared.core.Core.{Core}
 use Rattle.engine.specs.declared.engine.Engine.{Engine}
-use Rattle.engine.specs.Views.{model}
+use Rattle.tables.specs.Views.{model, words-on, over}
 
 -- An engine that is not laid out has only the words of its shelf; one that is has a parents table and a model.
 pub data State : Type 0 where
@@ -33,7 +33,7 @@ pub data State : Type 0 where
   laid : List ℕ → Model → State
 
 abbrev pub state-by : {S : Type 0} → (S → List ℕ) → Option Tree → Core S → State
-state-by words None c = bare (words (c .shelf))
+state-by words None c = bare (words-on words c)
 state-by words (Some t) c = laid (table t) (model words c)
 
 abbrev pub state : {M S : Type 0} → (S → List ℕ) → Engine M S → State
@@ -47,12 +47,6 @@ words-of (laid ps m) = m .words
 pub record Stepped : Type 0 where
   pub left : State
   pub said : Answer
-
--- First word i put at place i; the other places stay.
-abbrev pub over : List ℕ → List ℕ → List ℕ
-over [] words = words
-over (f ∷ fs) [] = []
-over (f ∷ fs) (w ∷ ws) = f ∷ over fs ws
 
 -- What the table of refusals looks at before the laying.
 abbrev pub nothing-yet : List ℕ → Facts

@@ -1,5 +1,5 @@
 // The engine.
-use crate::core::Core;
+use tables::Core;
 use granules::Tree;
 
 pub mod jobs;

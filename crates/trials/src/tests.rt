@@ -2,8 +2,6 @@
 use engine::Engine;
 use engine::Turn;
 use engine::run::run;
-use engine::turn::TurnDebug;
-use engine::turn::TurnPartialEq;
 use granules::Unfit;
 use granules::unfit::UnfitDebug;
 use granules::unfit::UnfitPartialEq;
@@ -33,6 +31,8 @@ use shelf::packed::PackedShelfShelf;
 use shelf::words::WordShelfShelf;
 use std::alloc::Global;
 use std::test::*;
+use tables::turn::TurnDebug;
+use tables::turn::TurnPartialEq;
 
 // A database with two files, 1 and 2; records 3 and 4 in the first, 5 in the second.
 const SIX: [u32; 6] = [0, 0, 0, 1, 1, 2];

@@ -1,6 +1,6 @@
 // Jobs opened, reopened and ended, and a look at who holds a granule.
 ghost use Rattle.ledger.specs.declared.call.Call.the-variants.{Open, Again, Commit, GiveUp, Look};
-ghost use Rattle.engine.specs.Replies.{as-done, as-job, as-head};
+ghost use Rattle.tables.specs.Replies.{as-done, as-job, as-head};
 ghost use Rattle.engine.specs.States.{Served, state};
 use super::Engine;
 use ledger::Refusal;

@@ -1,10 +1,10 @@
 // An engine made, and laid out.
 ghost use mathlib.Core.Path.{_≡_};
 ghost use Rattle.ledger.specs.declared.call.Call.the-variants.{Lay};
-ghost use Rattle.engine.specs.Replies.{as-done};
+ghost use Rattle.tables.specs.Replies.{as-done};
 ghost use Rattle.engine.specs.States.{Served, state, bare, words-of, Begun};
 use super::Engine;
-use crate::core::Core;
+use tables::Core;
 use granules::Tree;
 use ledger::Refusal;
 use modes::system::ModeSystem;

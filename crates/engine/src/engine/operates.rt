@@ -1,10 +1,10 @@
 // The operations of jobs.
 ghost use Rattle.operations.specs.declared.operation.Action.the-variants.{Read, Mean, Set, Add};
 ghost use Rattle.ledger.specs.declared.call.Call.the-variants.{Carry, Go};
-ghost use Rattle.engine.specs.Replies.{as-figures, as-average, as-written, as-outcome, In-shape};
+ghost use Rattle.tables.specs.Replies.{as-figures, as-average, as-written, as-outcome, In-shape};
 ghost use Rattle.engine.specs.States.{Served, state};
 use super::Engine;
-use crate::turn::Turn;
+use tables::Turn;
 use ledger::Refusal;
 use modes::system::ModeSystem;
 use operations::Action;

@@ -1,9 +1,9 @@
 // Calls as values.
 ghost use mathlib.Core.Path.{_≡_};
-ghost use Rattle.engine.specs.Replies.{as-done, as-job, as-head, as-outcome};
+ghost use Rattle.tables.specs.Replies.{as-done, as-job, as-head, as-outcome};
 ghost use Rattle.engine.specs.States.{Served, state};
 use super::Engine;
-use crate::turn::Turn;
+use tables::Turn;
 use ledger::Answer;
 use ledger::Call;
 use ledger::Refusal;

@@ -11,7 +11,8 @@ use Rattle.ledger.specs.declared.call.Call.{Call}
 use Rattle.ledger.specs.declared.call.Call.the-variants.{Lay}
 use Rattle.ledger.specs.Ledgers.{together}
 use Rattle.ledger.specs.Promises.{Promise}
-use Rattle.engine.specs.States.{State, step, state, words-of, over, Keeps}
+use Rattle.engine.specs.States.{State, step, state, words-of, Keeps}
+use Rattle.tables.specs.Views.{over}
 use Rattle.engine.proofs.Runs.{run-more}
 use Rattle.engine.proofs.Serves.{Follows, Began, begins, lay-refused, follows-promise}
 use Rattle.engine.proofs.run.run.Needs as need

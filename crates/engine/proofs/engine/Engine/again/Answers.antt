@@ -1,5 +1,5 @@
 use Rattle.ledger.specs.declared.call.Call.the-variants.{Again}
-use Rattle.engine.specs.Turns.{layout}
+use Rattle.tables.specs.Turns.{layout}
 use Rattle.engine.proofs.Serves.{laid-serves}
 use Rattle.engine.proofs.engine.Engine.again.Needs as need
 

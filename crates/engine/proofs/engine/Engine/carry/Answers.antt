@@ -1,7 +1,7 @@
 use Rattle.ledger.specs.declared.call.Call.the-variants.{Carry}
-use Rattle.engine.specs.Turns.{layout}
-use Rattle.engine.specs.Views.{model}
-use Rattle.engine.proofs.Replies.{in-shape}
+use Rattle.tables.specs.Turns.{layout}
+use Rattle.tables.specs.Views.{model}
+use Rattle.tables.proofs.Replies.{in-shape}
 use Rattle.engine.proofs.Serves.{laid-serves}
 use Rattle.engine.proofs.engine.Engine.carry.Needs as need
 

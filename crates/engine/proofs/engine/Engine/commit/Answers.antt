@@ -1,5 +1,5 @@
 use Rattle.ledger.specs.declared.call.Call.the-variants.{Commit}
-use Rattle.engine.specs.Turns.{layout}
+use Rattle.tables.specs.Turns.{layout}
 use Rattle.engine.proofs.Serves.{laid-serves}
 use Rattle.engine.proofs.engine.Engine.commit.Needs as need
 

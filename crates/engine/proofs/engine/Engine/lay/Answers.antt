@@ -3,9 +3,10 @@ use Prim.Native.Nat.{ℕ}
 use native.Mathlib.Omega.{arith}
 use Rattle.ledger.specs.declared.call.Call.the-variants.{Lay}
 use Rattle.ledger.specs.declared.refusal.Refusal.the-variants.{AlreadyLaidOut}
-use Rattle.engine.specs.Turns.{layout}
-use Rattle.engine.specs.Views.{model}
-use Rattle.engine.proofs.Serves.{denied, laid-serves}
+use Rattle.tables.specs.Turns.{layout}
+use Rattle.tables.specs.Views.{model}
+use Rattle.tables.proofs.Table.{denied}
+use Rattle.engine.proofs.Serves.{laid-serves}
 use Rattle.engine.proofs.engine.Engine.lay.Needs as need
 
 pub returns-in-Some : need.returns-in-Some

@@ -1,6 +1,0 @@
-use mathlib.Core.Path.{refl}
-use Rattle.engine.proofs.Tallies.{agree-blank}
-use Rattle.engine.proofs.held.Held.new.Needs as need
-
-pub ghost-result : need.ghost-result
-ghost-result c = (refl, (refl, ((refl, refl), (agree-blank, tt))))

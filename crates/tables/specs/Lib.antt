@@ -1,0 +1,13 @@
+pub mod Slots
+pub mod Seats
+pub mod Grids
+pub mod Heads
+pub mod Views
+pub mod Wounds
+pub mod Meetings
+pub mod Steps
+pub mod Notes
+pub mod Ends
+pub mod Turns
+pub mod Rows
+pub mod Replies
