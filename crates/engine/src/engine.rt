@@ -1,6 +1,6 @@
 // The engine.
-use tables::Core;
 use granules::Tree;
+use tables::Core;
 
 pub mod jobs;
 pub mod lays;

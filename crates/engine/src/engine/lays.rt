@@ -4,11 +4,11 @@ ghost use Rattle.ledger.specs.declared.call.Call.the-variants.{Lay};
 ghost use Rattle.tables.specs.Replies.{as-done};
 ghost use Rattle.engine.specs.States.{Served, state, bare, words-of, Begun};
 use super::Engine;
-use tables::Core;
 use granules::Tree;
 use ledger::Refusal;
 use modes::system::ModeSystem;
 use shelf::Shelf;
+use tables::Core;
 
 impl<M: ModeSystem, S: Shelf> Engine<M, S> {
     // An engine over a mode system and a shelf, not laid out.

@@ -4,13 +4,13 @@ ghost use Rattle.ledger.specs.declared.call.Call.the-variants.{Carry, Go};
 ghost use Rattle.tables.specs.Replies.{as-figures, as-average, as-written, as-outcome, In-shape};
 ghost use Rattle.engine.specs.States.{Served, state};
 use super::Engine;
-use tables::Turn;
 use ledger::Refusal;
 use modes::system::ModeSystem;
 use operations::Action;
 use operations::Operation;
 use operations::Outcome;
 use shelf::Shelf;
+use tables::Turn;
 
 impl<M: ModeSystem, S: Shelf> Engine<M, S> {
     // An operation of a working job: it takes its locks and is carried out, or waits for an older job.

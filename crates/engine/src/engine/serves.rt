@@ -3,13 +3,13 @@ ghost use mathlib.Core.Path.{_≡_};
 ghost use Rattle.tables.specs.Replies.{as-done, as-job, as-head, as-outcome};
 ghost use Rattle.engine.specs.States.{Served, state};
 use super::Engine;
-use tables::Turn;
 use ledger::Answer;
 use ledger::Call;
 use ledger::Refusal;
 use modes::system::ModeSystem;
 use operations::Outcome;
 use shelf::Shelf;
+use tables::Turn;
 
 fn done(result: Result<(), Refusal>) -> Answer
     ensures value { λ r. ⌜ r ≡ as-done result ⌝ }
