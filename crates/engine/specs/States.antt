@@ -32,6 +32,7 @@ pub data State : Type 0 where
   bare : List ℕ → State
   laid : List ℕ → Model → State
 
+-- What an engine is, by its tree, which it has once it is laid out, and its tables.
 abbrev pub state-by : {S : Type 0} → (S → List ℕ) → Option Tree → Core S → State
 state-by words None c = bare (words-on words c)
 state-by words (Some t) c = laid (table t) (model words c)
@@ -39,6 +40,7 @@ state-by words (Some t) c = laid (table t) (model words c)
 abbrev pub state : {M S : Type 0} → (S → List ℕ) → Engine M S → State
 state words e = state-by words (e .tree) (e .core)
 
+-- The words on its shelf.
 abbrev pub words-of : State → List ℕ
 words-of (bare ws) = ws
 words-of (laid ps m) = m .words
@@ -64,6 +66,7 @@ laid-by (Commit j) ws = bare ws
 laid-by (GiveUp j) ws = bare ws
 laid-by (Look g) ws = bare ws
 
+-- A call before the laying: refused by this row of the table, or the laying itself.
 abbrev pub first-call : Option Refusal → Call → List ℕ → Stepped
 first-call (Some r) c ws = record { left = bare ws; said = Refused r }
 first-call None c ws = record { left = laid-by c ws; said = Told Done }

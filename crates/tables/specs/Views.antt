@@ -21,6 +21,7 @@ jobs-of seats held =
       mode = λ k x. cell 0 (held .rows) (slot (seats .numbers) k) x;
     }
 
+-- The note of a job on a record, in the same way.
 abbrev pub notes-of : Seats → Noted → ℕ → ℕ → Note
 notes-of seats noted k r = cell Nothing (noted .rows) (slot (seats .numbers) k) r
 
@@ -28,6 +29,7 @@ notes-of seats noted k r = cell Nothing (noted .rows) (slot (seats .numbers) k) 
 abbrev pub whole : List ℕ → Seats → Held → Noted → Model
 whole words seats held noted = record { jobs = jobs-of seats held; words = words; notes = notes-of seats noted }
 
+-- The words of the shelf alone.
 abbrev pub words-on : {S : Type 0} → (S → List ℕ) → Core S → List ℕ
 words-on words c = words (c .shelf)
 
@@ -37,5 +39,6 @@ over [] words = words
 over (f ∷ fs) [] = []
 over (f ∷ fs) (w ∷ ws) = f ∷ over fs ws
 
+-- The model of all that is kept.
 abbrev pub model : {S : Type 0} → (S → List ℕ) → Core S → Model
 model words c = whole (words (c .shelf)) (c .seats) (c .held) (c .noted)
