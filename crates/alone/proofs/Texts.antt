@@ -6,7 +6,7 @@ use Rattle.entries.specs.Cuts.{Remains, line, lines_after}
 use Rattle.alone.specs.declared.input.Denied.{Denied}
 use Rattle.alone.specs.declared.input.Denied.TheVariants.{Entry, Memory}
 use Rattle.alone.specs.declared.input.Work.{Work}
-use Rattle.alone.specs.Inputs.{ReadAs, Reading, good, bad, and_then, closed, sizes, all_of, operation_in, read_lines, reading, Input, input_of}
+use Rattle.alone.specs.Inputs.{ReadAs, Reading, good, and_then, closed, sizes, all_of, operation_in, read_lines, reading, Input, input_of}
 
 -- a text is its four lines and what follows them
 lines_of :

@@ -2,6 +2,8 @@
 //
 // Input: line 1 has the number of granules and the number of operations, line 2 the parents, line 3 the first words, line 4
 // the operations. Files: `input` (reading it), `floor` (the words), `listing` (running it and writing the answers down).
+#![tactic(auto)]
+
 mod floor;
 mod input;
 mod listing;

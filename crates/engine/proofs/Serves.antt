@@ -9,7 +9,7 @@ use Rattle.ledger.specs.declared.call.Answer.TheVariants.{Told, Refused}
 use Rattle.ledger.specs.declared.call.Call.{Call}
 use Rattle.ledger.specs.declared.refusal.Refusal.{Refusal}
 use Rattle.ledger.specs.Refusals.{refusal}
-use Rattle.ledger.specs.Ledgers.{Layout, Event, facts}
+use Rattle.ledger.specs.Ledgers.{Layout, Event}
 use Rattle.ledger.specs.Promises.{Promise}
 use Rattle.ledger.specs.Models as models
 use Rattle.ledger.specs.Models.{Model, fresh, serve, history, served, grant, refused_or}

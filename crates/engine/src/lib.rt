@@ -4,6 +4,8 @@
 // that it leaves and answers what its definition says, and that the promise holds of every history that it is part of. `run` is a whole run.
 //
 // Read specs/ in this order: `States` (what an engine is to its callers, what a call does, what every call ensures), `Runs`.
+#![tactic(auto)]
+
 pub mod engine;
 pub mod run;
 

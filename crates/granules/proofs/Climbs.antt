@@ -1,8 +1,7 @@
 -- Paths in a rooted table: one granule at a time, and what lies beneath what.
-use Rattle.std.proofs.Common.{◌≡◌, ℕ, zero, suc, ◌+◌, ◌-◌, ◌<◌, ◌≤◌, Bool, true, false, cond, not, ◌&&◌, ◌||◌, eqb, ltb, leb, ◌⊎◌, List, [], ◌∷◌, ◌++◌, length, get_or, Some, None, sym, refl, ap, ◌∙◌, subst, inl, inr, arith}
+use Rattle.std.proofs.Common.{◌≡◌, ℕ, zero, suc, ◌+◌, ◌<◌, ◌≤◌, Bool, true, false, not, ◌&&◌, ◌||◌, eqb, ltb, leb, List, [], ◌∷◌, ◌++◌, length, Some, None, sym, refl, ap, ◌∙◌, subst, inl, inr, arith}
 use Rattle.std.proofs.lemmas.List.{length_push, get_or_past}
 use Rattle.std.proofs.lemmas.Bool.{cases_eq, cases_lt, cases_Bool, and_parts, and_from, or_cases, or_left, or_right, both_ways, ne_eqb, eq-eqb, and_left, le-ltb, eqb-true, ltb-true, leb-true, lt-ltb, not-true, not_from_false}
-use Rattle.granules.specs.Below.{some_below}
 use Rattle.granules.specs.Paths.{parent, path, path_by, among, beneath, settled, has_child, is_record, record_beneath, records_beneath}
 use Rattle.granules.specs.Tables.{rooted, right_for, shallow}
 use Rattle.granules.specs.Trees.{span}

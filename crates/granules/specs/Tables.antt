@@ -1,5 +1,5 @@
 -- Which tables are trees, and what is wrong with the others.
-use Rattle.std.specs.Prelude.{ℕ, Bool, true, false, not, ◌&&◌, ◌||◌, ltb, leb, List, length, Some, None, Option, ◌==◌, nat_eq, nat_le, nat_lt}
+use Rattle.std.specs.Prelude.{ℕ, Bool, true, false, ◌&&◌, ltb, leb, List, length, Some, None, Option, ◌==◌, nat_eq, nat_le, nat_lt}
 use Rattle.granules.specs.declared.unfit.Unfit.{Unfit}
 use Rattle.granules.specs.declared.unfit.Unfit.TheVariants.{Lengths, Parent, Path}
 use Rattle.granules.specs.Below.{each_below}

@@ -1,5 +1,5 @@
 -- What a `Tree` and a `Path` keep.
-use Rattle.std.specs.Prelude.{ℕ, ◌+◌, Bool, true, false, List, length, take}
+use Rattle.std.specs.Prelude.{ℕ, ◌+◌, true, false, List, length, take}
 use Rattle.granules.specs.declared.path.Path.{Path}
 use Rattle.granules.specs.declared.tree.Tree.{Tree}
 use Rattle.granules.specs.Paths.{is_record}

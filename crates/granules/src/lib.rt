@@ -5,6 +5,8 @@
 //
 // Files: `unfit` (what can be wrong with a parents table), `tree` (a table that has passed; `makes` is the check, `asks`
 // the questions to it), `path` (the granules from the root down to one).
+#![tactic(auto)]
+
 pub mod path;
 pub mod tree;
 pub mod unfit;

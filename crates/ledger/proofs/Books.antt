@@ -1,6 +1,6 @@
 -- The books of a state: which steps are in the words, and what the notes say of them. They stay right when a job is
 -- taken back, carries out an operation, or commits.
-use Rattle.std.proofs.Common.{◌≡◌, ℕ, zero, suc, ◌+◌, ◌-◌, ◌%◌, ◌<◌, ◌≤◌, Bool, true, false, cond, ◌&&◌, ◌||◌, eqb, ltb, ◌⊎◌, List, [], ◌∷◌, ◌++◌, length, get_or, sym, refl, ap, ◌∙◌, subst, ap₂, inl, inr, append_assoc, append-nil, arith}
+use Rattle.std.proofs.Common.{◌≡◌, ℕ, suc, ◌+◌, ◌%◌, ◌<◌, ◌≤◌, Bool, true, false, ◌&&◌, ◌||◌, List, [], ◌∷◌, ◌++◌, length, get_or, sym, refl, ap, ◌∙◌, subst, inl, inr, append_assoc, append-nil, arith}
 use mathlib.Core.Path.{fun_ext}
 use Rattle.std.specs.List.{AllByRecursion as All}
 use Rattle.std.proofs.lemmas.List.{ext_get_or, get_or_past}
@@ -13,17 +13,16 @@ use Rattle.granules.specs.Paths.{record_beneath}
 use Rattle.operations.specs.declared.operation.Action.{Action}
 use Rattle.operations.specs.declared.operation.Action.TheVariants.{Read, Mean, Set, Add}
 use Rattle.operations.specs.declared.operation.Operation.{Operation}
-use Rattle.operations.specs.declared.operation.Outcome.{Outcome}
 use Rattle.operations.specs.Actions.{kind, changed}
-use Rattle.operations.specs.Words.{answer, after, left_at, each_from}
+use Rattle.operations.specs.Words.{answer, after, left_at}
 use Rattle.operations.specs.Alone.{Step, Alone}
 use Rattle.operations.proofs.Places.{length_each, getD_each}
 use Rattle.operations.proofs.Steps.{alone_push}
 use Rattle.ledger.specs.Collisions.{Apart, ListsApart}
-use Rattle.ledger.specs.Jobs.{put, where_so}
-use Rattle.ledger.specs.Models.{Note, nothing, added, put_back, back, noted, noted_add, taken_back, all_taken_back}
+use Rattle.ledger.specs.Jobs.{put}
+use Rattle.ledger.specs.Models.{Note, nothing, added, put_back, back, noted, noted_add, taken_back}
 use Rattle.ledger.proofs.Swaps.{left_in, left_out, length_after, word_after}
-use Rattle.ledger.proofs.Runs.{effect, split, join, same_end, alike_after, Same, effect_++, run_length, run_at, apart_one, apart_push, apart_sym}
+use Rattle.ledger.proofs.Runs.{effect, split, join, same_end, alike_after, effect_++, run_length, run_at, apart_one, apart_push, apart_sym}
 use Rattle.ledger.proofs.Piles.{put_same, put_at, put_other, pile, pile_ext, Pairwise, pairwise_clear, last, first}
 
 -- a step that sets a record

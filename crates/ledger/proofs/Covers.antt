@@ -1,12 +1,12 @@
 -- Jobs whose modes stand together, and that cover what they did, do not collide.
-use Rattle.std.proofs.Common.{◌≡◌, ℕ, zero, suc, ◌<◌, Bool, true, false, ◌&&◌, ◌||◌, eqb, ◌⊎◌, List, [], ◌∷◌, ◌++◌, sym, refl, ap, ◌∙◌, subst, ap₂, inl, inr, append_assoc, append-nil, arith}
+use Rattle.std.proofs.Common.{◌≡◌, ℕ, Bool, true, false, ◌&&◌, eqb, List, [], ◌∷◌, ◌++◌, sym, refl, ap, ◌∙◌, subst, inl, inr, append_assoc, append-nil}
 use Rattle.std.specs.List.{AllByRecursion as All}
-use Rattle.std.proofs.lemmas.Bool.{cases_Bool, and_parts, and_from, or_cases, or_left, or_right, both_ways, eqb-true, eq-eqb}
+use Rattle.std.proofs.lemmas.Bool.{and_parts, and_from, or_cases, or_left, or_right, both_ways, eqb-true}
 use Rattle.modes.specs.declared.kind.Kind.{Kind}
 use Rattle.modes.specs.Kinds.{commutes}
 use Rattle.modes.specs.Systems.{System, Lawful}
-use Rattle.granules.specs.Paths.{parent, path, beneath, is_record, record_beneath}
-use Rattle.granules.proofs.Climbs.{Falls, climb, path_root, path_step, beneath_root, beneath_step}
+use Rattle.granules.specs.Paths.{parent, path, beneath, is_record}
+use Rattle.granules.proofs.Climbs.{Falls, climb, path_step, beneath_root, beneath_step}
 use Rattle.operations.specs.Actions.{kind}
 use Rattle.operations.specs.declared.operation.Operation.{Operation}
 use Rattle.operations.specs.Alone.{Step}

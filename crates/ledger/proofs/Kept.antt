@@ -1,18 +1,16 @@
 -- What stays true of a ledger, and of the words and notes that go with it.
-use Rattle.std.proofs.Common.{◌≡◌, ℕ, zero, suc, ◌<◌, ◌≤◌, Bool, true, false, ◌&&◌, ◌||◌, eqb, ltb, ◌⊎◌, List, [], ◌∷◌, ◌++◌, sym, refl, ap, ◌∙◌, subst, ap₂, inl, inr, arith}
-use Rattle.std.specs.List.{AllByRecursion as All}
-use Rattle.std.proofs.lemmas.Bool.{cases_eq, cases_lt, cases_Bool, both_ways, eqb-true, eq-eqb, ne_eqb, ltb-true, lt-ltb, le-ltb}
-use Rattle.modes.specs.declared.kind.Kind.{Kind}
+use Rattle.std.proofs.Common.{◌≡◌, ℕ, suc, ◌<◌, ◌≤◌, Bool, true, false, List, [], ◌∷◌, sym, refl, ap, ◌∙◌, subst, ap₂, inl, inr, arith}
+use Rattle.std.proofs.lemmas.Bool.{cases_eq, cases_lt, cases_Bool, both_ways, eq-eqb, ne_eqb, lt-ltb, le-ltb}
 use Rattle.modes.specs.Systems.{System, Lawful}
 use Rattle.shelf.specs.Words.{Fit}
 use Rattle.granules.specs.Below.{some_below}
 use Rattle.granules.proofs.Below.{some_from}
 use Rattle.operations.specs.Alone.{Step}
-use Rattle.ledger.specs.Jobs.{Jobs, Status, working, waiting, wounded, ended, is_open, is_wounded, is_ended, put, where_so, now_is, raise, wound_jobs}
-use Rattle.ledger.specs.Walks.{Judgement, passes, gives_way, holds_up, judge, must_give_way, must_wait, yields, blocks, has}
+use Rattle.ledger.specs.Jobs.{Jobs, Status, working, waiting, wounded, ended, is_open, is_wounded, is_ended, put, where_so, raise}
+use Rattle.ledger.specs.Walks.{passes, gives_way, holds_up, judge, must_give_way, must_wait, yields, blocks, has}
 use Rattle.ledger.specs.Ledgers.{Layout, Ledger, ledger_hands}
 use Rattle.ledger.specs.Promises.{count_of, in_turn}
-use Rattle.ledger.specs.Collisions.{Covers, covered}
+use Rattle.ledger.specs.Collisions.{Covers}
 use Rattle.ledger.specs.Models.{Note, nothing, all_taken_back}
 use Rattle.ledger.proofs.Piles.{put_same, put_at, put_other}
 use Rattle.ledger.proofs.Orders.{in_turn_ext}

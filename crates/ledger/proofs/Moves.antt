@@ -1,9 +1,7 @@
 -- What is kept when a job changes its state, is opened, reopened, carries out an operation, commits or gives up.
-use Rattle.std.proofs.Common.{◌≡◌, ℕ, zero, suc, ◌<◌, ◌≤◌, Bool, true, false, eqb, ◌⊎◌, List, [], ◌∷◌, ◌++◌, get_or, sym, refl, ap, ◌∙◌, subst, ap₂, inl, inr, append_assoc, append-nil, arith}
-use Rattle.std.specs.List.{AllByRecursion as All}
-use Rattle.std.proofs.lemmas.Bool.{cases_eq, cases_lt, cases_Bool, both_ways}
-use Rattle.modes.specs.declared.kind.Kind.{Kind}
-use Rattle.modes.specs.Systems.{System, Lawful}
+use Rattle.std.proofs.Common.{◌≡◌, ℕ, suc, ◌≤◌, true, false, List, [], ◌∷◌, ◌++◌, get_or, sym, refl, ap, ◌∙◌, subst, ap₂, inl, inr, append_assoc, append-nil, arith}
+use Rattle.std.proofs.lemmas.Bool.{cases_eq, cases_Bool, both_ways}
+use Rattle.modes.specs.Systems.{Lawful}
 use Rattle.shelf.specs.Words.{Fit}
 use Rattle.granules.specs.Paths.{path, record_beneath}
 use Rattle.granules.proofs.Climbs.{Falls}
@@ -11,7 +9,7 @@ use Rattle.operations.specs.declared.operation.Operation.{Operation}
 use Rattle.operations.specs.Actions.{kind}
 use Rattle.operations.specs.Words.{answer, after}
 use Rattle.operations.specs.Alone.{Step}
-use Rattle.ledger.specs.Jobs.{Jobs, Status, working, waiting, wounded, ended, is_open, is_wounded, is_ended, put, now_is, open_one, end_one}
+use Rattle.ledger.specs.Jobs.{Status, working, ended, is_open, is_wounded, is_ended, put, now_is, open_one, end_one}
 use Rattle.ledger.specs.Ledgers.{Layout, Ledger, ledger_hands, note_step}
 use Rattle.ledger.specs.Promises.{count_of, in_turn}
 use Rattle.ledger.specs.Collisions.{Covers, covered}

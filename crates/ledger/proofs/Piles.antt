@@ -1,10 +1,10 @@
 -- The lists of all jobs below n, one after the other, and one of them moved to an end.
-use Rattle.std.proofs.Common.{◌≡◌, ℕ, zero, suc, ◌<◌, ◌≤◌, true, false, eqb, List, [], ◌∷◌, ◌++◌, sym, refl, ap, ◌∙◌, subst, ap₂, inl, inr, append_assoc, append-nil, arith}
+use Rattle.std.proofs.Common.{◌≡◌, ℕ, zero, suc, ◌<◌, List, [], ◌++◌, sym, refl, ap, ◌∙◌, subst, ap₂, inl, inr, append_assoc, append-nil, arith}
 use Rattle.std.proofs.lemmas.Bool.{cases_eq, eq-eqb, ne_eqb}
-use Rattle.operations.specs.Alone.{Step, Alone}
+use Rattle.operations.specs.Alone.{Step}
 use Rattle.ledger.specs.Collisions.{ListsApart}
-use Rattle.ledger.specs.Jobs.{put, where_so}
-use Rattle.ledger.proofs.Runs.{Same, same_is, same_sym, same_trans, same_after, same_exchange, apart_none, apart_++, apart_sym}
+use Rattle.ledger.specs.Jobs.{put}
+use Rattle.ledger.proofs.Runs.{Same, same_is, same_trans, same_after, same_exchange, apart_none, apart_++, apart_sym}
 
 pub put_same : {A : Type 0} (j : ℕ) (a : A) (f : ℕ → A) → put j a f j ≡ a
 put_same j a f = let e = eq-eqb j j refl in rw (e, put)

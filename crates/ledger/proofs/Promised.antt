@@ -1,17 +1,16 @@
 -- The promise, after any list of calls.
-use Rattle.std.proofs.Common.{◌≡◌, ℕ, zero, suc, ◌<◌, ◌≤◌, Bool, true, false, not, ◌&&◌, eqb, ◌⊎◌, List, [], ◌∷◌, ◌++◌, length, Some, None, Option, sym, refl, ap, ◌∙◌, subst, inl, inr, append-nil, arith}
-use Rattle.std.proofs.lemmas.Bool.{cases_eq, cases_Bool, both_ways, eq-eqb, ne_eqb}
-use Rattle.modes.specs.Systems.{System, Lawful}
+use Rattle.std.proofs.Common.{◌≡◌, ℕ, suc, ◌<◌, true, false, ◌⊎◌, List, [], ◌∷◌, ◌++◌, Some, None, sym, refl, ap, ◌∙◌, subst, inl, inr, append-nil, arith}
+use Rattle.std.proofs.lemmas.Bool.{cases_eq, cases_Bool, eq-eqb, ne_eqb}
+use Rattle.modes.specs.Systems.{Lawful}
 use Rattle.shelf.specs.Words.{Fit}
 use Rattle.granules.specs.declared.unfit.Unfit.{Unfit}
-use Rattle.granules.specs.Tables.{fault, sized, rooted, shallow}
+use Rattle.granules.specs.Tables.{fault, sized, rooted}
 use Rattle.granules.proofs.Climbs.{Falls, falls}
 use Rattle.operations.specs.Alone.{Step, Alone}
 use Rattle.ledger.specs.declared.call.Call.{Call}
-use Rattle.ledger.specs.declared.call.Answer.{Answer}
-use Rattle.ledger.specs.Jobs.{Jobs, ended, is_open, put}
+use Rattle.ledger.specs.Jobs.{is_open, put}
 use Rattle.ledger.specs.Ledgers.{Layout, Ledger, Event, blank, next, written}
-use Rattle.ledger.specs.Promises.{Arranges, Serial, EachEvent, Promise, count_of, in_turn}
+use Rattle.ledger.specs.Promises.{Serial, EachEvent, count_of, in_turn}
 use Rattle.ledger.specs.Models.{Note, nothing, Model, refused_or, grant, fresh, serve, history, served, taken_back}
 use Rattle.ledger.specs.Theorems.{PromiseKept, OldestNeverWaits, EachGoesOn, CoveredDoNotCollide, ArrangesWithout, TakeBackExact, RefusedLeavesEqual}
 use Rattle.ledger.proofs.Runs.{alike_after}
@@ -20,7 +19,7 @@ use Rattle.ledger.proofs.Orders.{arranged, in_turn_ext}
 use Rattle.ledger.proofs.Books.{without}
 use Rattle.ledger.proofs.Kept.{Kept, live, live_open, live_shut, open_not_ended, given}
 use Rattle.ledger.proofs.Walking.{model_of}
-use Rattle.ledger.proofs.Serves.{Moved, served_kept}
+use Rattle.ledger.proofs.Serves.{served_kept}
 use Rattle.ledger.proofs.Covers.{apart_lists}
 
 -- a table that is admitted is rooted

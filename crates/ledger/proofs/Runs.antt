@@ -1,7 +1,7 @@
 -- Runs of steps: cut, joined, moved past one another, and what they do to one place.
-use Rattle.std.proofs.Common.{◌≡◌, ℕ, ◌<◌, ◌≤◌, List, [], ◌∷◌, ◌++◌, length, get_or, sym, refl, ap, ◌∙◌, subst, append_assoc, arith}
+use Rattle.std.proofs.Common.{◌≡◌, ℕ, ◌<◌, List, [], ◌∷◌, ◌++◌, length, get_or, sym, refl, ap, ◌∙◌, subst, arith}
 use Rattle.std.specs.List.{AllByRecursion as All}
-use Rattle.operations.specs.Words.{answer, after, left_at}
+use Rattle.operations.specs.Words.{after, left_at}
 use Rattle.operations.specs.Alone.{Step, Alone}
 use Rattle.ledger.specs.Collisions.{Apart, ListsApart}
 use Rattle.ledger.proofs.Swaps.{apart_comm, swap, length_after, word_after}

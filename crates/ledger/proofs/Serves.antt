@@ -1,8 +1,8 @@
 -- Every call keeps what is kept, is answered as the ledger asks, and lets the oldest job go on.
-use Rattle.std.proofs.Common.{◌≡◌, ℕ, zero, suc, ◌<◌, ◌≤◌, Bool, true, false, not, ◌&&◌, ◌⊎◌, List, [], ◌∷◌, ◌++◌, get_or, Some, None, Option, sym, refl, ap, ◌∙◌, subst, ap₂, inl, inr, arith}
+use Rattle.std.proofs.Common.{◌≡◌, ℕ, zero, suc, ◌<◌, ◌≤◌, Bool, true, false, ◌&&◌, List, [], ◌∷◌, ◌++◌, get_or, Some, None, Option, sym, refl, ap, ◌∙◌, subst, ap₂, inl, inr, arith}
 use Rattle.std.specs.List.{AllByRecursion as All}
 use Rattle.std.proofs.lemmas.Bool.{cases_eq, cases_lt, cases_Bool, both_ways, not-false}
-use Rattle.modes.specs.Systems.{System, Lawful}
+use Rattle.modes.specs.Systems.{Lawful}
 use Rattle.shelf.specs.Words.{Fit}
 use Rattle.granules.specs.Paths.{path, record_beneath, records_beneath, among}
 use Rattle.granules.proofs.Climbs.{Falls, path_root, path_step}
@@ -10,25 +10,24 @@ use Rattle.operations.specs.declared.operation.Action.{Action}
 use Rattle.operations.specs.declared.operation.Action.TheVariants.{Read, Mean, Set, Add}
 use Rattle.operations.specs.declared.operation.Operation.{Operation}
 use Rattle.operations.specs.declared.operation.Outcome.{Outcome}
-use Rattle.operations.specs.declared.operation.Outcome.TheVariants.{Figures, Average, Done}
-use Rattle.operations.specs.Actions.{kind, rounded}
+use Rattle.operations.specs.declared.operation.Outcome.TheVariants.{Done}
+use Rattle.operations.specs.Actions.{kind}
 use Rattle.operations.specs.Words.{sum, told, answer, after}
-use Rattle.operations.specs.Alone.{Step}
 use Rattle.ledger.specs.declared.call.Answer.{Answer}
 use Rattle.ledger.specs.declared.call.Answer.TheVariants.{Job, Told, Waits, Head, Refused}
 use Rattle.ledger.specs.declared.call.Call.{Call}
 use Rattle.ledger.specs.declared.call.Call.TheVariants.{Lay, Open, Carry, Go, Again, Commit, GiveUp, Look}
 use Rattle.ledger.specs.declared.refusal.Refusal.{Refusal}
-use Rattle.ledger.specs.Refusals.{Facts, number, rows, can_meet, fits, first_of, refusal, job_of}
-use Rattle.ledger.specs.Jobs.{Jobs, Status, working, waiting, wounded, ended, is_open, is_working, is_waiting, is_wounded, is_ended, put, now_is}
-use Rattle.ledger.specs.Walks.{Hands, Walked, walk}
+use Rattle.ledger.specs.Refusals.{number, rows, can_meet, fits, first_of, refusal, job_of}
+use Rattle.ledger.specs.Jobs.{Status, working, waiting, wounded, ended, is_open, is_wounded, is_ended, put, now_is}
+use Rattle.ledger.specs.Walks.{Walked, walk}
 use Rattle.ledger.specs.Ledgers.{Layout, Ledger, facts, wanted, attempt, ledger_hands, noting, note_step, tried, granted, unless_refused, next}
 use Rattle.ledger.specs.Promises.{Shaped, Operated, Granted, ByRefusal, Oldest}
 use Rattle.ledger.specs.Collisions.{covered}
 use Rattle.ledger.specs.Models.{Note, nothing, noted, Model, Served, model_hands, carried, try, grant, refused_or, serve}
 use Rattle.ledger.proofs.Piles.{put_same, put_at, put_other}
 use Rattle.ledger.proofs.Kept.{Kept, live_open, live_shut, open_not_ended}
-use Rattle.ledger.proofs.Walking.{model_of, Stepped, walk_kept, path_ends}
+use Rattle.ledger.proofs.Walking.{model_of, walk_kept, path_ends}
 use Rattle.ledger.proofs.Moves.{turn_kept, open_kept, commit_kept, giveup_kept, carry_kept}
 
 -- what no row fits, row by row

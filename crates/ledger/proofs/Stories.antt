@@ -1,5 +1,5 @@
 -- The cases at the edges, by computing them; what the ledger asks for in the story, by the theorem over all runs.
-use Rattle.std.proofs.Common.{◌≡◌, ℕ, zero, suc, ◌<◌, List, [], ◌∷◌, get_or, None, refl, subst, arith}
+use Rattle.std.proofs.Common.{◌≡◌, zero, suc, [], ◌∷◌, None, refl, subst, arith}
 use Rattle.modes.specs.Rights.{counting}
 use Rattle.modes.specs.Laws.{lawful}
 use Rattle.modes.proofs.Entries.{known_entries}
@@ -8,10 +8,10 @@ use Rattle.granules.specs.Paths.{path, is_record}
 use Rattle.granules.specs.Tables.{fault}
 use Rattle.operations.specs.Words.{after}
 use Rattle.operations.proofs.Edges.{one_granule, wraps, halves_up, eight_deep}
-use Rattle.ledger.specs.Ledgers.{Event, blank, together}
+use Rattle.ledger.specs.Ledgers.{blank, together}
 use Rattle.ledger.specs.Promises.{EachEvent}
 use Rattle.ledger.specs.Models.{fresh, history, served}
-use Rattle.ledger.specs.Stories.{six, first_words, story_calls, story_answers, Story, Restores, Seventeenth, Uppermost, EdgeCases}
+use Rattle.ledger.specs.Stories.{six, first_words, story_calls, story_answers, Restores, Seventeenth, Uppermost, EdgeCases}
 use Rattle.ledger.proofs.Promised.{promise_kept}
 
 said : history six story_calls (fresh first_words) ≡ together story_calls story_answers

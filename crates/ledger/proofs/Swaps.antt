@@ -1,5 +1,5 @@
 -- Operations that are apart change places unnoticed.
-use Rattle.std.proofs.Common.{◌≡◌, ℕ, zero, suc, ◌+◌, ◌%◌, ◌<◌, ◌≤◌, Bool, true, false, cond, List, [], ◌∷◌, ◌++◌, length, get_or, sym, refl, ap, ◌∙◌, subst, ap₂, inl, inr, arith}
+use Rattle.std.proofs.Common.{◌≡◌, ℕ, zero, suc, ◌<◌, Bool, true, false, List, [], ◌∷◌, length, get_or, sym, refl, ap, ◌∙◌, subst, inl, inr, arith}
 use Rattle.std.proofs.lemmas.List.{get_or_past}
 use Rattle.std.proofs.lemmas.Bool.{cases_lt, cases_Bool, cond-true, cond-false, both_ways}
 use Rattle.modes.specs.declared.kind.Kind.{Kind}
@@ -10,7 +10,6 @@ use Rattle.granules.specs.Paths.{record_beneath, records_beneath}
 use Rattle.operations.specs.declared.operation.Action.{Action}
 use Rattle.operations.specs.declared.operation.Action.TheVariants.{Read, Mean, Set, Add}
 use Rattle.operations.specs.declared.operation.Operation.{Operation}
-use Rattle.operations.specs.declared.operation.Outcome.{Outcome}
 use Rattle.operations.specs.Actions.{kind, changed}
 use Rattle.operations.specs.Words.{sum, told, answer, each_from, left_at, after}
 use Rattle.operations.specs.Alone.{Step, Alone}

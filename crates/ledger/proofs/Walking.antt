@@ -1,5 +1,5 @@
 -- A walk keeps what is kept, and if it is completed the job covers the operation.
-use Rattle.std.proofs.Common.{◌≡◌, ℕ, zero, suc, ◌<◌, ◌≤◌, Bool, true, false, ◌&&◌, ◌||◌, eqb, ltb, ◌⊎◌, List, [], ◌∷◌, ◌++◌, sym, refl, ap, ◌∙◌, subst, ap₂, inl, inr, arith}
+use Rattle.std.proofs.Common.{◌≡◌, ℕ, zero, suc, ◌<◌, ◌≤◌, Bool, true, false, ◌&&◌, eqb, ◌⊎◌, List, [], ◌∷◌, ◌++◌, sym, refl, ap, ◌∙◌, subst, inl, inr, arith}
 use Rattle.std.proofs.lemmas.Bool.{cases_eq, cases_Bool, both_ways, eqb-true, eq-eqb, ne_eqb, and_from, or_left, or_right}
 use Rattle.modes.specs.declared.kind.Kind.{Kind}
 use Rattle.modes.specs.Systems.{System, Lawful}
@@ -8,12 +8,12 @@ use Rattle.granules.specs.Below.{some_below}
 use Rattle.granules.specs.Paths.{path}
 use Rattle.granules.proofs.Below.{some_at}
 use Rattle.granules.proofs.Climbs.{Falls, path_root, path_step}
-use Rattle.ledger.specs.Jobs.{Jobs, is_open, is_ended, where_so, raise, wounded, put}
-use Rattle.ledger.specs.Walks.{Hands, Walked, judge, must_give_way, yields, blocks, has, target, walk}
+use Rattle.ledger.specs.Jobs.{is_open, is_ended, where_so, raise, wounded, put}
+use Rattle.ledger.specs.Walks.{Hands, Walked, must_give_way, yields, blocks, has, target, walk}
 use Rattle.ledger.specs.Ledgers.{Layout, Ledger, ledger_hands}
 use Rattle.ledger.specs.Collisions.{covered}
 use Rattle.ledger.specs.Models.{Note, nothing, Model, model_hands, all_taken_back}
-use Rattle.ledger.proofs.Piles.{put_same, put_at}
+use Rattle.ledger.proofs.Piles.{put_same}
 use Rattle.ledger.proofs.Wounds.{where_false, where_true}
 use Rattle.ledger.proofs.Kept.{Kept, judged_self, yields_young, blocks_old, stands_or_yields, open_not_ended, in_the_way, wound_kept, raise_kept, has_still}
 

@@ -1,5 +1,5 @@
 -- What is held of a job: its state (see src/job.rt) and its modes.
-use Rattle.std.specs.Prelude.{ℕ, suc, Bool, true, false, not, ◌==◌}
+use Rattle.std.specs.Prelude.{ℕ, suc, Bool, true, false, ◌==◌}
 pub use Rattle.ledger.specs.declared.job.Status.{Status}
 pub use Rattle.ledger.specs.declared.job.Status.TheVariants.{Working as working, Waiting as waiting, Wounded as wounded, Ended as ended}
 

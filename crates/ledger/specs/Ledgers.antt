@@ -1,6 +1,6 @@
 -- The ledger: what calls do to jobs. It is fed each call with its answer, and of an answer uses nothing but what it notes
 -- beside an operation. No word of the shelf is in it.
-use Rattle.std.specs.Prelude.{ℕ, zero, suc, ◌+◌, Bool, true, false, not, eqb, List, [], ◌∷◌, ◌++◌, length, Some, None, Option}
+use Rattle.std.specs.Prelude.{ℕ, suc, true, false, not, List, [], ◌∷◌, ◌++◌, length, Some, None, Option}
 use Rattle.modes.specs.Systems.{System}
 use Rattle.granules.specs.Below.{count_below}
 use Rattle.granules.specs.Paths.{path}

@@ -14,7 +14,7 @@ use Rattle.ledger.specs.declared.call.Call.TheVariants.{Lay, Open, Carry, Go, Ag
 use Rattle.ledger.specs.declared.refusal.Refusal.{Refusal}
 use Rattle.ledger.specs.Refusals.{refusal}
 use Rattle.ledger.specs.Jobs.{Jobs, working, put, where_so, none, now_is, open_one, end_one, wound_jobs}
-use Rattle.ledger.specs.Walks.{Hands, Walked}
+use Rattle.ledger.specs.Walks.{Hands}
 use Rattle.ledger.specs.Ledgers.{Layout, Event, facts, wanted, attempt}
 use Rattle.ledger.specs.Promises.{group, holders}
 pub use Rattle.ledger.specs.declared.job.Note.{Note}

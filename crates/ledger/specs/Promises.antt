@@ -1,5 +1,5 @@
 -- The promise, of a history of calls with their answers and of the words on the shelf now.
-use Rattle.std.specs.Prelude.{◌≡◌, ℕ, zero, suc, ◌+◌, ◌<◌, Bool, true, false, not, List, [], ◌∷◌, ◌++◌, Some, None, Option, ◌==◌, ◌≢◌}
+use Rattle.std.specs.Prelude.{◌≡◌, ℕ, zero, suc, ◌<◌, Bool, true, false, not, List, [], ◌∷◌, ◌++◌, Some, None, Option, ◌==◌, ◌≢◌}
 use Rattle.modes.specs.Systems.{System}
 use Rattle.granules.specs.Below.{count_below}
 use Rattle.operations.specs.declared.operation.Action.{Action}
@@ -14,8 +14,7 @@ use Rattle.ledger.specs.declared.call.Call.{Call}
 use Rattle.ledger.specs.declared.call.Call.TheVariants.{Lay, Open, Carry, Go, Again, Commit, GiveUp, Look}
 use Rattle.ledger.specs.declared.refusal.Refusal.{Refusal}
 use Rattle.ledger.specs.Refusals.{refusal, job_of}
-use Rattle.ledger.specs.Jobs.{Jobs, Status, is_open, is_wounded, is_ended}
-use Rattle.ledger.specs.Walks.{Walked}
+use Rattle.ledger.specs.Jobs.{Jobs, is_open, is_wounded, is_ended}
 use Rattle.ledger.specs.Ledgers.{Layout, Ledger, Event, ledger_hands, facts, wanted, attempt, next, written, blank}
 
 -- 1. Verdicts: each answer is the one that the ledger before it asks for.

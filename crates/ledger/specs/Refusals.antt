@@ -1,10 +1,9 @@
 -- Which calls are refused, and why: a table whose rows are tried from the top.
-use Rattle.std.specs.Prelude.{ℕ, suc, Bool, true, false, not, ◌&&◌, ◌||◌, List, [], ◌∷◌, length, Some, None, Option, ◌==◌, nat_le, nat_lt}
+use Rattle.std.specs.Prelude.{ℕ, Bool, true, false, not, ◌&&◌, List, [], ◌∷◌, length, Some, None, Option, ◌==◌, nat_le, nat_lt}
 use Rattle.granules.specs.declared.unfit.Unfit.{Unfit}
 use Rattle.granules.specs.declared.unfit.Unfit.TheVariants.{Lengths, Parent, Path}
 use Rattle.granules.specs.Paths.{among}
 use Rattle.granules.specs.Tables as tables
-use Rattle.operations.specs.declared.operation.Operation.{Operation}
 use Rattle.ledger.specs.declared.call.Call.{Call}
 use Rattle.ledger.specs.declared.call.Call.TheVariants.{Lay, Open, Carry, Go, Again, Commit, GiveUp, Look}
 use Rattle.ledger.specs.declared.refusal.Refusal.{Refusal}

@@ -1,5 +1,5 @@
 -- What is proved of these definitions. Each statement stands in the contract of a function of src/promises.rt.
-use Rattle.std.specs.Prelude.{◌≡◌, ℕ, Bool, true, false, List, [], ◌∷◌, ◌++◌, Some, None, ◌==◌}
+use Rattle.std.specs.Prelude.{◌≡◌, ℕ, true, false, List, [], ◌∷◌, ◌++◌, Some, None, ◌==◌}
 use Rattle.modes.specs.Systems.{System, Lawful}
 use Rattle.shelf.specs.Words.{Fit}
 use Rattle.granules.specs.Tables.{fault, rooted}
@@ -12,7 +12,7 @@ use Rattle.ledger.specs.Jobs.{Jobs, is_open}
 use Rattle.ledger.specs.Ledgers.{Layout, Ledger, Event, facts, blank, next, written}
 use Rattle.ledger.specs.Promises.{OldestGoesOn, Promise, count_of, in_turn}
 use Rattle.ledger.specs.Collisions.{ListsApart, Covers}
-use Rattle.ledger.specs.Models.{Model, Served, fresh, serve, history, served, taken_back}
+use Rattle.ledger.specs.Models.{Model, fresh, serve, history, served, taken_back}
 
 -- What is said of every run: over every lawful mode system, every parents table that is admitted, every list of words of 32
 -- bits that lie on the shelf when the engine is laid out, and every list of calls.

@@ -1,5 +1,5 @@
 -- How a job takes the locks for an operation.
-use Rattle.std.specs.Prelude.{ℕ, Bool, true, false, ◌&&◌, List, [], ◌∷◌, ◌==◌, nat_lt}
+use Rattle.std.specs.Prelude.{ℕ, Bool, true, false, List, [], ◌∷◌, ◌==◌, nat_lt}
 use Rattle.modes.specs.declared.kind.Kind.{Kind}
 use Rattle.modes.specs.Systems.{System}
 use Rattle.granules.specs.Below.{some_below}

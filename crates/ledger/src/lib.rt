@@ -7,6 +7,8 @@
 // Read specs/ in this order: `Refusals` (which call is refused, and why), `Jobs` (what is held of a job), `Walks` (how
 // locks are taken), `Ledgers` (what calls do to jobs), `Promises` (what is promised), `Models` (what an engine has to
 // keep in order to promise it), `Theorems`, `Stories`.
+#![tactic(auto)]
+
 pub mod call;
 pub mod job;
 pub mod promises;

@@ -1,5 +1,5 @@
 -- The entries by computing them, and Gray's modes within the counting ones by a computed test over all codes.
-use Rattle.std.proofs.Common.{◌≡◌, ℕ, ◌<◌, Bool, true, ◌&&◌, eqb, get_or, sym, refl, subst₂, arith}
+use Rattle.std.proofs.Common.{◌≡◌, ℕ, ◌<◌, Bool, true, ◌&&◌, eqb, get_or, refl, subst₂, arith}
 use Rattle.std.proofs.lemmas.Bool.{and_parts, eqb-true}
 use Rattle.modes.specs.Systems.{clipped}
 use Rattle.modes.specs.Rights.{Mode, system, gray, counting, mode, code, joined, stand, NL}

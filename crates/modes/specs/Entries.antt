@@ -1,7 +1,6 @@
 -- Entries of the tables that can be checked by eye, and how the two systems hang together.
-use Rattle.std.specs.Prelude.{◌≡◌, ℕ, ◌<◌, Bool, true, false}
-use Rattle.modes.specs.Systems.{System}
-use Rattle.modes.specs.Rights.{Mode, Design, system, mode, code, gray, counting, IS, IN, S, N, SIX, X}
+use Rattle.std.specs.Prelude.{◌≡◌, ℕ, Bool, true, false}
+use Rattle.modes.specs.Rights.{Mode, system, mode, code, gray, counting, IS, IN, S, N, SIX, X}
 
 -- two modes of the counting system, by their names, joined and held at once
 abbrev joins : Mode → Mode → ℕ

@@ -1,5 +1,5 @@
 -- Why the tables of modes are as they are: a mode is a pair of rights.
-use Rattle.std.specs.Prelude.{ℕ, suc, Bool, true, false, cond, not, ◌&&◌, List, [], ◌∷◌, length, slice_index_or}
+use Rattle.std.specs.Prelude.{ℕ, suc, Bool, true, false, not, ◌&&◌, List, [], ◌∷◌, length, slice_index_or}
 use Rattle.modes.specs.declared.kind.Kind.{Kind}
 use Rattle.modes.specs.declared.kind.Kind.TheVariants.{Read, Set, Add}
 use Rattle.modes.specs.Systems.{System, clipped}

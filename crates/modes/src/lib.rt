@@ -7,6 +7,8 @@
 //
 // Files: `kind` (what operations do to a word), `system` (the trait and its laws), `gray` and
 // `counting` (a table each), `facts` (single entries of the tables, as a theorem).
+#![tactic(auto)]
+
 pub mod counting;
 pub mod facts;
 pub mod gray;

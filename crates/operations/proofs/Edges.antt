@@ -1,5 +1,5 @@
 -- The cases at the edges, by computing them.
-use Rattle.std.proofs.Common.{◌≡◌, ℕ, refl, ap, zero-add}
+use Rattle.std.proofs.Common.{ℕ, refl, ap, zero-add}
 use Rattle.granules.specs.Paths.{path, is_record}
 use Rattle.operations.specs.declared.operation.Outcome.TheVariants.{Figures}
 use Rattle.operations.specs.Words.{after}

@@ -1,5 +1,5 @@
 -- Cases at the edges.
-use Rattle.std.specs.Prelude.{◌≡◌, ℕ, List, [], ◌∷◌, Some, None}
+use Rattle.std.specs.Prelude.{◌≡◌, ℕ, [], ◌∷◌, Some, None}
 use Rattle.granules.specs.declared.unfit.Unfit.TheVariants.{Path}
 use Rattle.granules.specs.Tables.{fault, number}
 use Rattle.operations.specs.declared.operation.Action.{Action}

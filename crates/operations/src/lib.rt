@@ -5,6 +5,8 @@
 //
 // Files: `operation` (the vocabulary), `carry` (one operation carried out over any shelf), `alone` (a list of them),
 // `facts` (cases at the edges).
+#![tactic(auto)]
+
 pub mod alone;
 pub mod carry;
 pub mod facts;

@@ -1,10 +1,17 @@
 -- The words of a new shelf and of a packed one, place by place.
-use Rattle.std.specs.Prelude.{◌≡◌, ℕ, zero, suc, ◌+◌, ◌*◌, ◌/◌, ◌%◌, ◌<◌, ◌≤◌, List, [], ◌∷◌, map, length, set, replicate, Some, None, slice_index, slice_index_or, slice_set, refl}
+use Rattle.std.specs.Prelude.{◌≡◌, ℕ, zero, suc, ◌+◌, ◌*◌, ◌/◌, ◌%◌, ◌<◌, ◌≤◌, List, [], ◌∷◌, length, set, replicate, Some, None, slice_index, slice_index_or, slice_set, vec_len, Vec, refl}
 use Rattle.std.proofs.Common.{sym, ◌∙◌, ap, inl, inr, arith}
 use Rattle.std.proofs.Math.Nat.{div-div-eq-div-mul}
 use Rattle.std.proofs.lemmas.List.{get_or-replicate, get_or_past, get_or-map, length-map, length-replicate, map-set}
 use Rattle.std.proofs.lemmas.Bool.{cases_lt, cond_below, cond_above}
 use Rattle.shelf.specs.Words.{at, Fit, word, bytes_of, unpacked, Bytes}
+
+-- a shelf of its own has at most as many places as any shelf
+pub few_words : {Z : Type 0} (words : Vec ℕ Z) → vec_len words ≤ 256 → length words.items ≤ 65536
+few_words words few = omega arith
+
+pub few_unpacked : {Z : Type 0} (cells : Vec (List ℕ) Z) → vec_len cells ≤ 256 → length (unpacked cells.items) ≤ 65536
+few_unpacked cells few = rw length-map (omega arith)
 
 -- copies of a number below m, and the zeros read beyond them, are below m
 copies_below : (n x m i : ℕ) → x < m → slice_index (replicate n x) i < m

@@ -26,6 +26,9 @@ module _ (xs ys : List ℕ) where
   pub length_joined : length (joined xs ys) ≡ min (length xs + length ys) 65536
   length_joined = simp (length-take, length-append) (omega arith)
 
+  pub joined_few : length (joined xs ys) ≤ 65536
+  joined_few = rw length_joined (omega arith)
+
   -- the word at a place, on each side
   held_first : (i : ℕ) → i < 65536 → i < length xs → slice_index xs i ≡ slice_index (joined xs ys) i
   held_first i l h = sym (get_or-take 65536 (xs ++ ys) i 0 l ∙ get_or_append_left xs ys 0 i h)

@@ -2,8 +2,7 @@
 ghost use Rattle.std.specs.Prelude.{◌≡◌, ◌+◌, ◌≤◌, min};
 ghost use Rattle.shelf.specs.Sides.{Leads, side};
 ghost use Rattle.shelf.specs.Words.{joined};
-ghost use Rattle.std.proofs.Common.{arith};
-ghost use Rattle.shelf.specs.SidesLemmas.{length_joined, joined_fit};
+ghost use Rattle.shelf.specs.SidesLemmas.{joined_few, joined_fit};
 
 use crate::interface::Shelf;
 
@@ -66,7 +65,7 @@ impl<A: Shelf, B: Shelf> JoinedShelf<A, B> {
 impl<A: Shelf, B: Shelf> Shelf for JoinedShelf<A, B> {
     ghost words = { λ s. joined (A.Shelf.words s.first) (B.Shelf.words s.second) };
 
-    ghost few = { λ s. rw length_joined (omega arith) };
+    ghost few = { λ s. joined_few (A.Shelf.words s.first) (B.Shelf.words s.second) };
 
     ghost fit = { λ s. joined_fit _ _ (A.Shelf.fit s.first) (B.Shelf.fit s.second) };
 

@@ -1,9 +1,7 @@
 // A shelf that keeps four bytes a word, highest byte first.
 ghost use Rattle.std.specs.Prelude.{◌≡◌, ◌≤◌, min, replicate, IfOk, vec_len, nat_lt};
 ghost use Rattle.shelf.specs.Words.{Bytes, bytes_of, unpacked, word};
-ghost use Rattle.std.proofs.Common.{arith};
-ghost use Rattle.std.proofs.lemmas.List.{length-map};
-ghost use Rattle.shelf.specs.Places.{unpacked_fit};
+ghost use Rattle.shelf.specs.Places.{few_unpacked, unpacked_fit};
 
 use crate::interface::Shelf;
 use crate::words::places;
@@ -61,7 +59,7 @@ fn unpack(cell: [u8; 4]) -> u32
 impl Shelf for PackedShelf {
     ghost words = { λ s. unpacked s.cells.items };
 
-    ghost few = { λ s. rw length-map (omega arith) };
+    ghost few = { λ s. few_unpacked s.cells s.few };
 
     ghost fit = { λ s. unpacked_fit s.cells.items s.bytes };
 

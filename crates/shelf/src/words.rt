@@ -1,7 +1,7 @@
 // A shelf that keeps its words as they are.
 ghost use Rattle.std.specs.Prelude.{◌≡◌, ◌≤◌, min, replicate, IfOk, vec_len};
 ghost use Rattle.shelf.specs.Words.{Fit};
-ghost use Rattle.std.proofs.Common.{rules, arith};
+ghost use Rattle.shelf.specs.Places.{few_words};
 
 use crate::interface::Shelf;
 use std::alloc::{AllocError, Global};
@@ -36,9 +36,9 @@ impl WordShelf {
 impl Shelf for WordShelf {
     ghost words = { λ s. s.words.items };
 
-    ghost few = { first_of (Prim.search rules, Prim.grind (arith, Self.row.coded.inj)) };
+    ghost few = { λ s. few_words s.words s.few };
 
-    ghost fit = { first_of (Prim.search rules, Prim.grind (arith, Self.row.coded.inj)) };
+    ghost fit = { λ s. s.fit };
 
     fn size(&self) -> usize {
         self.words.len()

@@ -1,12 +1,12 @@
 -- Jobs counted by their numbers are the slots counted one by one.
-use Rattle.std.proofs.Common.{◌≡◌, ℕ, zero, suc, ◌+◌, ◌<◌, ◌≤◌, Bool, true, false, cond, not, ◌&&◌, ◌||◌, eqb, leb, List, [], ◌∷◌, length, get_or, sym, refl, ap, ◌∙◌, subst, inl, inr, arith}
+use Rattle.std.proofs.Common.{◌≡◌, ℕ, zero, suc, ◌+◌, ◌<◌, ◌≤◌, Bool, true, false, cond, not, ◌||◌, eqb, leb, List, [], ◌∷◌, length, get_or, sym, refl, ap, ◌∙◌, subst, inl, inr, arith}
 use Rattle.std.proofs.lemmas.List.{get_or_past}
 use Rattle.std.proofs.lemmas.Bool.{cases_eq, cases_lt, both_ways, and_parts, or_cases, not-true, not_from_true, not_from_false, cond-true, cond-false, le-leb, lt-leb, leb-true, eq-eqb, ne_eqb, eqb-true}
 use Rattle.granules.specs.Below.{count_below}
 use Rattle.granules.specs.Paths.{among}
 use Rattle.granules.proofs.Below.{sum_none, count_le}
 use Rattle.ledger.specs.declared.job.Status.TheVariants.{Ended}
-use Rattle.ledger.specs.Jobs.{Jobs, is_ended}
+use Rattle.ledger.specs.Jobs.{is_ended}
 use Rattle.ledger.specs.Ledgers.{unended}
 use Rattle.tables.specs.declared.held.Held.{Held}
 use Rattle.tables.specs.declared.seats.Seats.{Seats}

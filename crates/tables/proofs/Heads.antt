@@ -6,7 +6,6 @@ use Rattle.std.proofs.lemmas.List.Sums.{sum_by-cons}
 use Rattle.std.proofs.lemmas.Bool.{cases_eq, cases_lt, not_from_true, not_from_false, cond-true, cond-false, eq-eqb, ne_eqb}
 use Rattle.modes.specs.Systems.{System, Lawful}
 use Rattle.granules.specs.Below.{sum_below, count_below}
-use Rattle.ledger.specs.Jobs.{Jobs}
 use Rattle.ledger.specs.Promises.{group, holders}
 use Rattle.tables.specs.declared.core.Core.{Core}
 use Rattle.tables.specs.Grids.{cell}

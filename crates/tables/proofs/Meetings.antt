@@ -6,8 +6,7 @@ use Rattle.modes.specs.Systems.{System, Lawful}
 use Rattle.granules.specs.Below.{some_below}
 use Rattle.granules.specs.Paths.{among}
 use Rattle.granules.proofs.Below.{some_at, some_from}
-use Rattle.ledger.specs.Jobs.{Jobs}
-use Rattle.ledger.specs.Walks.{Hands, judge, must_give_way, must_wait, yields, blocks}
+use Rattle.ledger.specs.Walks.{judge, must_give_way, must_wait, yields, blocks}
 use Rattle.ledger.specs.Models.{Model, model_hands}
 use Rattle.ledger.proofs.Kept.{yields_young, blocks_old}
 use Rattle.ledger.proofs.Wounds.{where_false}

@@ -13,7 +13,6 @@ use Rattle.operations.specs.Words.{after}
 use Rattle.ledger.specs.declared.job.Note.{Note}
 use Rattle.ledger.specs.declared.job.Note.TheVariants.{Nothing}
 use Rattle.ledger.specs.Jobs.{put}
-use Rattle.ledger.specs.Ledgers.{Layout}
 use Rattle.ledger.specs.Models.{noted, word_at, carried}
 use Rattle.tables.specs.declared.held.Held.{Held}
 use Rattle.tables.specs.declared.noted.Noted.{Noted}

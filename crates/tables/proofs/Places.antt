@@ -1,9 +1,9 @@
 -- The first place of a number in a list, and lists whose numbers are apart and given.
-use Rattle.std.proofs.Common.{◌≡◌, ℕ, zero, suc, ◌+◌, ◌<◌, ◌≤◌, Bool, true, false, not, ◌&&◌, ◌||◌, eqb, ltb, leb, ◌⊎◌, List, [], ◌∷◌, length, get_or, set, fold, sym, refl, ap, ◌∙◌, subst, inl, inr, arith}
+use Rattle.std.proofs.Common.{◌≡◌, ℕ, zero, suc, ◌<◌, ◌≤◌, true, false, not, ◌&&◌, ◌||◌, eqb, ltb, leb, ◌⊎◌, List, [], ◌∷◌, length, get_or, set, fold, sym, refl, ap, ◌∙◌, subst, inl, inr, arith}
 use Rattle.std.proofs.lemmas.List.{get_or_past}
 use Rattle.std.proofs.lemmas.Bool.{cases_eq, cases_lt, and_parts, and_left, and_right, cond-true, cond-false, lt-ltb, le-ltb, and_from, or_cases, or_left, or_right, or_parts, or_from, both_ways, not-true, not_from_false, eq-eqb, ne_eqb, eqb-true, le-leb, leb-true}
 use Rattle.granules.specs.Paths.{among}
-use Rattle.tables.specs.Seats.{place, slot, distinct, all_given, nearer, next_above}
+use Rattle.tables.specs.Seats.{place, distinct, all_given, nearer, next_above}
 
 pub place_here : (x : ℕ) (xs : List ℕ) (k : ℕ) → x ≡ k → place (x ∷ xs) k ≡ 0
 place_here x xs k e = let t = eq-eqb x k e in rw (t, place)

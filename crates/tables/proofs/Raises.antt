@@ -1,7 +1,6 @@
 -- A mode raised in a slot is raised in the model.
 use Rattle.std.proofs.Common.{◌≡◌, ℕ, ◌<◌, List, sym, refl, ap, ◌∙◌, arith}
 use Rattle.ledger.specs.Jobs.{raise}
-use Rattle.ledger.specs.Walks.{Hands}
 use Rattle.ledger.specs.Models.{model_hands}
 use Rattle.tables.specs.declared.held.Held.{Held}
 use Rattle.tables.specs.declared.noted.Noted.{Noted}

@@ -1,12 +1,11 @@
 -- An operation that is carried out answers in the shape that its action has.
-use Rattle.std.proofs.Common.{◌≡◌, ℕ, Bool, true, false, Some, None, Ok, Err, Option, Result, refl, ap, ◌∙◌, subst, arith}
+use Rattle.std.proofs.Common.{◌≡◌, ℕ, Bool, true, false, Some, None, Ok, Err, Option, Result, refl, ap, subst, arith}
 use Rattle.granules.specs.Paths.{records_beneath}
 use Rattle.operations.specs.declared.operation.Action.{Action}
 use Rattle.operations.specs.declared.operation.Action.TheVariants.{Read, Mean, Set, Add}
 use Rattle.operations.specs.declared.operation.Operation.{Operation}
 use Rattle.operations.specs.declared.operation.Outcome.{Outcome}
 use Rattle.operations.specs.Words.{sum, told, answer}
-use Rattle.ledger.specs.declared.call.Answer.{Answer}
 use Rattle.ledger.specs.declared.call.Answer.TheVariants.{Told, Waits}
 use Rattle.ledger.specs.declared.call.Call.TheVariants.{Carry}
 use Rattle.ledger.specs.declared.refusal.Refusal.{Refusal}

@@ -4,8 +4,8 @@ use Rattle.std.proofs.lemmas.List.{drop_more}
 use Rattle.std.proofs.lemmas.Bool.{ne_eqb}
 use Rattle.modes.specs.Systems.{System}
 use Rattle.granules.specs.Below.{some_below}
-use Rattle.ledger.specs.Jobs.{Jobs, raise}
-use Rattle.ledger.specs.Walks.{Hands, Walked, has, target, yields, blocks}
+use Rattle.ledger.specs.Jobs.{raise}
+use Rattle.ledger.specs.Walks.{has, target, yields, blocks}
 use Rattle.ledger.specs.Models.{Model, model_hands}
 use Rattle.ledger.proofs.Walking.{walk_stops, walk_goes}
 use Rattle.tables.specs.declared.core.walks.Walker.{Walker}

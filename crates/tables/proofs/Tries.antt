@@ -11,8 +11,8 @@ use Rattle.operations.specs.Words.{answer}
 use Rattle.ledger.specs.declared.job.Note.TheVariants.{Nothing}
 use Rattle.ledger.specs.declared.job.Status.{Status}
 use Rattle.ledger.specs.declared.job.Status.TheVariants.{Wounded, Ended}
-use Rattle.ledger.specs.Jobs.{Jobs, is_open, now_is, where_so}
-use Rattle.ledger.specs.Walks.{Hands, Walked, has, target, must_give_way, yields, blocks}
+use Rattle.ledger.specs.Jobs.{is_open, now_is, where_so}
+use Rattle.ledger.specs.Walks.{Walked, has, target, must_give_way, yields, blocks}
 use Rattle.ledger.specs.Ledgers.{Layout, attempt}
 use Rattle.ledger.specs.declared.call.Answer.TheVariants.{Told, Waits}
 use Rattle.ledger.specs.Models.{Model, Served, model_hands, carried, try}

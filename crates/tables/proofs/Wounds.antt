@@ -6,8 +6,7 @@ use Rattle.ledger.specs.declared.job.Note.{Note}
 use Rattle.ledger.specs.declared.job.Note.TheVariants.{Nothing}
 use Rattle.ledger.specs.declared.job.Status.{Status}
 use Rattle.ledger.specs.declared.job.Status.TheVariants.{Wounded, Ended}
-use Rattle.ledger.specs.Jobs.{Jobs, where_so, wound_jobs}
-use Rattle.ledger.specs.Walks.{Hands}
+use Rattle.ledger.specs.Jobs.{where_so, wound_jobs}
 use Rattle.ledger.specs.Models.{Model, model_hands, taken_back, all_taken_back}
 use Rattle.ledger.proofs.Wounds.{where_true, where_false, where_cong}
 use Rattle.tables.specs.declared.core.Core.{Core}

@@ -1,5 +1,5 @@
 -- Jobs that are opened, reopened and ended, in a model.
-use Rattle.std.specs.Prelude.{ℕ, List}
+use Rattle.std.specs.Prelude.{ℕ}
 use Rattle.ledger.specs.declared.job.Note.TheVariants.{Nothing}
 use Rattle.ledger.specs.declared.job.Status.TheVariants.{Working}
 use Rattle.ledger.specs.Jobs.{put, now_is, open_one, end_one}

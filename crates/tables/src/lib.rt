@@ -19,6 +19,8 @@
 //
 // Read specs/ in this order: `Views` (the model of the tables, in which every call is stated), `Replies` and `Turns` (which answer a result
 // is), then what the parts are held to.
+#![tactic(auto)]
+
 pub mod core;
 mod head;
 mod held;

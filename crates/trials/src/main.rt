@@ -6,6 +6,8 @@
 // granule 3, and `l` lays out once more. Each story is played on three shelves, which must answer alike.
 //
 // Files: `story` (reading a line), `play` (playing it).
+#![tactic(auto)]
+
 mod play;
 mod story;
 #[cfg(test)]

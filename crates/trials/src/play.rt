@@ -9,14 +9,13 @@ use modes::gray::Gray;
 use modes::system::ModeSystem;
 use operations::Outcome;
 use shelf::{JoinedShelf, PackedShelf, Shelf, WordShelf};
-use std::alloc::Global;
-use std::fmt;
+use std::alloc::{AllocError, Global};
 use std::fmt::Write;
 
 // The most calls of one story.
 const MOST: u32 = 10000;
 
-fn write_answer(out: &mut String, answer: Answer) -> fmt::Result {
+fn write_answer(out: &mut String, answer: Answer) -> Result<(), AllocError> {
     match answer {
         Answer::Job(number) => write!(out, "job{number} "),
         Answer::Told(Outcome::Figures(sum, count)) => write!(out, "read{sum}/{count} "),

@@ -10,7 +10,7 @@ returns c =
     record {
       made =
           ap₂ joined
-          (ap (λ (s : WordShelf). vec_items s.words) c.new-3.ensures.first ∙ c.in-ok-first.ensures.made)
-          (ap (λ (s : PackedShelf). unpacked (vec_items s.cells)) c.new-3.ensures.second ∙ c.in-ok-second.ensures.made)
+          (ap (λ (s : WordShelf). vec_items s.words) c.new-3.ensures.first ∙ c.in_ok-first.ensures.made)
+          (ap (λ (s : PackedShelf). unpacked (vec_items s.cells)) c.new-3.ensures.second ∙ c.in_ok-second.ensures.made)
           ∙ bare_halves;
     }

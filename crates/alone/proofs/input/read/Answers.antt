@@ -3,94 +3,94 @@ use Rattle.alone.specs.Inputs.{ReadAs, Input, input_of}
 use Rattle.alone.proofs.Texts.{text_of, first_bad, second_bad, third_bad, fourth_bad, all_good}
 use Rattle.alone.proofs.input.read.Goals as goal
 
-pub returns-in-err-granules : goal.returns-in-err-granules
-returns-in-err-granules c =
-    let r = c.from-residual.result in
+pub returns-in_err-granules : goal.returns-in_err-granules
+returns-in_err-granules c =
+    let r = c.from_residual.result in
     let text =
     text_of c.args.text.now c.new-lines.ensures.value
-    c.next-line.ensures.value c.next-line.ensures.after refl refl refl refl refl refl
+    c.next_line.ensures.value c.next_line.ensures.after refl refl refl refl refl refl
     in
     record {
       value =
           subst (λ d. ReadAs input_of d r) text
-          (first_bad _ _ _ _ _ c.in-err-granules.field-0.0 r c.from-residual.ensures.1
-          c.in-err-granules.ensures.value);
+          (first_bad _ _ _ _ _ c.in_err-granules.field-0.0 r c.from_residual.ensures.1
+          c.in_err-granules.ensures.value);
     }
 
-pub returns-in-err-parents : goal.returns-in-err-parents
-returns-in-err-parents c =
-    let r = c.from-residual-in-err-parents.result in
+pub returns-in_err-parents : goal.returns-in_err-parents
+returns-in_err-parents c =
+    let r = c.from_residual-in_err-parents.result in
     let text =
     text_of c.args.text.now c.new-lines.ensures.value
-    c.next-line.ensures.value c.next-line.ensures.after c.next-line-2.ensures.value
-    c.next-line-2.ensures.after refl refl refl refl
+    c.next_line.ensures.value c.next_line.ensures.after c.next_line-2.ensures.value
+    c.next_line-2.ensures.after refl refl refl refl
     in
     record {
       value =
           subst (λ d. ReadAs input_of d r) text
-          (second_bad _ _ _ _ _ c.in-ok-granules.granules c.in-ok-granules.count
-          c.in-err-parents.field-0.0 r c.in-ok-granules.ensures.value
-          c.from-residual-in-err-parents.ensures.1 c.in-err-parents.ensures.value);
+          (second_bad _ _ _ _ _ c.in_ok-granules.granules c.in_ok-granules.count
+          c.in_err-parents.field-0.0 r c.in_ok-granules.ensures.value
+          c.from_residual-in_err-parents.ensures.1 c.in_err-parents.ensures.value);
     }
 
-pub returns-in-err-words : goal.returns-in-err-words
-returns-in-err-words c =
-    let r = c.from-residual-in-err-words.result in
+pub returns-in_err-words : goal.returns-in_err-words
+returns-in_err-words c =
+    let r = c.from_residual-in_err-words.result in
     let text =
     text_of c.args.text.now c.new-lines.ensures.value
-    c.next-line.ensures.value c.next-line.ensures.after c.next-line-2.ensures.value
-    c.next-line-2.ensures.after c.next-line-3.ensures.value c.next-line-3.ensures.after refl refl
+    c.next_line.ensures.value c.next_line.ensures.after c.next_line-2.ensures.value
+    c.next_line-2.ensures.after c.next_line-3.ensures.value c.next_line-3.ensures.after refl refl
     in
     record {
       value =
           subst (λ d. ReadAs input_of d r) text
-          (third_bad _ _ _ _ _ c.in-ok-granules.granules c.in-ok-granules.count
-          (vec_items c.in-ok-parents.parents) c.in-err-words.field-0.0 r
-          c.in-ok-granules.ensures.value c.in-ok-parents.ensures.value
-          c.from-residual-in-err-words.ensures.1 c.in-err-words.ensures.value);
+          (third_bad _ _ _ _ _ c.in_ok-granules.granules c.in_ok-granules.count
+          (vec_items c.in_ok-parents.parents) c.in_err-words.field-0.0 r
+          c.in_ok-granules.ensures.value c.in_ok-parents.ensures.value
+          c.from_residual-in_err-words.ensures.1 c.in_err-words.ensures.value);
     }
 
-pub returns-in-err-operations : goal.returns-in-err-operations
-returns-in-err-operations c =
-    let r = c.from-residual-in-err-operations.result in
+pub returns-in_err-operations : goal.returns-in_err-operations
+returns-in_err-operations c =
+    let r = c.from_residual-in_err-operations.result in
     let text =
     text_of c.args.text.now c.new-lines.ensures.value
-    c.next-line.ensures.value c.next-line.ensures.after c.next-line-2.ensures.value
-    c.next-line-2.ensures.after c.next-line-3.ensures.value c.next-line-3.ensures.after
-    c.next-line-4.ensures.value c.next-line-4.ensures.after
+    c.next_line.ensures.value c.next_line.ensures.after c.next_line-2.ensures.value
+    c.next_line-2.ensures.after c.next_line-3.ensures.value c.next_line-3.ensures.after
+    c.next_line-4.ensures.value c.next_line-4.ensures.after
     in
     record {
       value =
           subst (λ d. ReadAs input_of d r) text
-          (fourth_bad _ _ _ _ _ c.in-ok-granules.granules c.in-ok-granules.count
-          (vec_items c.in-ok-parents.parents) (vec_items c.in-ok-words.words)
-          c.in-err-operations.field-0.0 r c.in-ok-granules.ensures.value
-          c.in-ok-parents.ensures.value c.in-ok-words.ensures.value
-          c.from-residual-in-err-operations.ensures.1 c.in-err-operations.ensures.value);
+          (fourth_bad _ _ _ _ _ c.in_ok-granules.granules c.in_ok-granules.count
+          (vec_items c.in_ok-parents.parents) (vec_items c.in_ok-words.words)
+          c.in_err-operations.field-0.0 r c.in_ok-granules.ensures.value
+          c.in_ok-parents.ensures.value c.in_ok-words.ensures.value
+          c.from_residual-in_err-operations.ensures.1 c.in_err-operations.ensures.value);
     }
 
 pub returns : goal.returns
 returns c =
     let read : Input =
     record {
-      parents = vec_items c.in-ok-parents.parents;
-      words = vec_items c.in-ok-words.words;
-      operations = vec_items c.in-ok-operations.operations;
+      parents = vec_items c.in_ok-parents.parents;
+      words = vec_items c.in_ok-words.words;
+      operations = vec_items c.in_ok-operations.operations;
     }
     in
     let text =
     text_of c.args.text.now c.new-lines.ensures.value
-    c.next-line.ensures.value c.next-line.ensures.after c.next-line-2.ensures.value
-    c.next-line-2.ensures.after c.next-line-3.ensures.value c.next-line-3.ensures.after
-    c.next-line-4.ensures.value c.next-line-4.ensures.after
+    c.next_line.ensures.value c.next_line.ensures.after c.next_line-2.ensures.value
+    c.next_line-2.ensures.after c.next_line-3.ensures.value c.next_line-3.ensures.after
+    c.next_line-4.ensures.value c.next_line-4.ensures.after
     in
     record {
       value =
           subst (λ d. ReadAs input_of d c.ended.result)
           (sym
-          (all_good _ _ _ _ _ c.in-ok-granules.granules c.in-ok-granules.count read
-          c.in-ok-granules.ensures.value c.in-ok-parents.ensures.value
-          c.in-ok-words.ensures.value c.in-ok-operations.ensures.value)
+          (all_good _ _ _ _ _ c.in_ok-granules.granules c.in_ok-granules.count read
+          c.in_ok-granules.ensures.value c.in_ok-parents.ensures.value
+          c.in_ok-words.ensures.value c.in_ok-operations.ensures.value)
           ∙ text)
           c.ended.ensures.value;
     }

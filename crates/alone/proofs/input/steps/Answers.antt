@@ -18,22 +18,22 @@ loop-i-preserved c =
     goes_on (operation_in c.args.granules) 4 c.args.count start c.loop-i.i (vec_items c.loop-i.operations) (remains c.loop-i.line)
     c.in-Some.operation c.loop-i-test.true c.in-Some.ensures.value c.loop-i.invariant
     in
-    kept (operation_in c.args.granules) 4 c.args.count start (c.loop-i.i + 1) (sym c.in-ok-push.ensures.items)
+    kept (operation_in c.args.granules) 4 c.args.count start (c.loop-i.i + 1) (sym c.in_ok-push.ensures.items)
     (sym c.in-Some.ensures.after) more
 
-pub returns-in-default : goal.returns-in-default
-returns-in-default c =
+pub returns-in_default : goal.returns-in_default
+returns-in_default c =
     record {
       value =
           stops (operation_in c.args.granules) 4 c.args.count (remains c.args.line) c.loop-i.i (vec_items c.loop-i.operations)
-          (remains c.loop-i.line) c.loop-i-test.true c.in-default.ensures.value c.loop-i.invariant;
+          (remains c.loop-i.line) c.loop-i-test.true c.in_default.ensures.value c.loop-i.invariant;
     }
 
-pub returns-in-err-push : goal.returns-in-err-push
-returns-in-err-push c = record { value = unread vec_items _ c.from-residual.result c.from-residual.ensures.1 }
+pub returns-in_err-push : goal.returns-in_err-push
+returns-in_err-push c = record { value = unread vec_items _ c.from_residual.result c.from_residual.ensures.1 }
 
-pub returns-then-not-is-spent : goal.returns-then-not-is-spent
-returns-then-not-is-spent c =
+pub returns-then-not-is_spent : goal.returns-then-not-is_spent
+returns-then-not-is_spent c =
     let r = remains c.loop-i.line in
     let t : false ≡ spent r = search rules in
     record {

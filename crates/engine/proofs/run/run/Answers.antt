@@ -10,7 +10,7 @@ use Rattle.tables.specs.Views.{over}
 use Rattle.engine.proofs.Runs.{run_more}
 use Rattle.engine.proofs.Serves.{Follows, Began, begins, lay_refused, follows_promise}
 use Rattle.engine.proofs.run.run.Goals as goal
-use Rattle.engine.proofs.run.run.Goals.{In-ok-answers, at·returns}
+use Rattle.engine.proofs.run.run.Goals.{In_ok-answers, at-returns}
 
 pub returns-in-Err : goal.returns-in-Err
 returns-in-Err g c =
@@ -24,7 +24,7 @@ returns-in-Err g c =
     record { promise = (r.0, ap words_of r.1) }
 
 -- the laying, wherever it was done
-began : (g : _) (c : goal.In-ok-answers g) → Began g.M.ModeSystem.meaning (Lay c.args.parents c.args.words) (g.S.Shelf.words c.args.shelf) c.args.parents.now (over c.args.words.now (g.S.Shelf.words c.args.shelf)) (state g.S.Shelf.words c.lay.new.self)
+began : (g : _) (c : goal.In_ok-answers g) → Began g.M.ModeSystem.meaning (Lay c.args.parents c.args.words) (g.S.Shelf.words c.args.shelf) c.args.parents.now (over c.args.words.now (g.S.Shelf.words c.args.shelf)) (state g.S.Shelf.words c.lay.new.self)
 began g c =
     let s = g.M.ModeSystem.meaning in
     let words = g.S.Shelf.words in
@@ -32,8 +32,8 @@ began g c =
     let first = over c.args.words.now ws in
     let after_it = state words c.lay.new.self in
     begins s (Lay c.args.parents c.args.words) ws c.args.parents.now first (state words c.new-engine.result) after_it c.new-engine.ensures.made refl
-    c.in-default.ensures.served
-    (subst (λ (st : State). Keeps s after_it (over c.args.words.now (words_of st)) []) c.new-engine.ensures.made (c.in-default.ensures.begun refl))
+    c.in_default.ensures.served
+    (subst (λ (st : State). Keeps s after_it (over c.args.words.now (words_of st)) []) c.new-engine.ensures.made (c.in_default.ensures.begun refl))
 
 pub loop-call-init : goal.loop-call-init
 loop-call-init g c = (search rules, search rules, (began g c).follows)
@@ -45,13 +45,13 @@ loop-call-preserved g c =
     let long : length (vec_items v) ≡ c.loop-call.call-index = sym v.ok.0 ∙ before.0 in
     let words = g.S.Shelf.words in
     let i = c.loop-call.call-index in (
-      omega (arith, c.push-reserved.ensures.len, before.0),
-      omega (arith, c.push-reserved.ensures.capacity, before.1),
+      omega (arith, c.push_reserved.ensures.len, before.0),
+      omega (arith, c.push_reserved.ensures.capacity, before.1),
       subst
           (λ (xs : List Answer).
           Follows g.M.ModeSystem.meaning c.args.parents.now (words_of (state words c.lay.new.self)) (together (take (i + 1) c.args.calls.now) xs)
           (state words c.serve-answer.new.self))
-          (sym c.push-reserved.ensures.items)
+          (sym c.push_reserved.ensures.items)
           (run_more g.M.ModeSystem.meaning g.met.M.ModeSystem.lawful c.args.parents.now (words_of (state words c.lay.new.self)) c.args.calls.now (vec_items v) i _
           c.serve-answer.result (state words c.loop-call.engine) (state words c.serve-answer.new.self) c.loop-call-test.true long c.serve-answer.ensures.served before.2),
     )
@@ -64,7 +64,7 @@ returns g c =
     let v = c.loop-call.answers in
     let cs = c.args.calls.now in
     let i = c.loop-call.call-index in
-    let start = began g (at·returns g c).In-ok-answers in
+    let start = began g (at-returns g c).In_ok-answers in
     let now_words = words_of (state words c.loop-call.engine) in
     let kept =
     follows_promise s g.met.M.ModeSystem.lawful c.args.parents.now (words_of (state words c.lay.new.self)) (together (take i cs) (vec_items v)) (state words c.loop-call.engine) inv.2

@@ -1,4 +1,4 @@
-use Rattle.std.proofs.Common.{◌≡◌, ◌+◌, List, length, take, vec_items, vec_len, vec_capacity, sym, ◌∙◌, subst, arith}
+use Rattle.std.proofs.Common.{◌≡◌, ◌+◌, List, length, take, vec_items, sym, ◌∙◌, subst, arith}
 use Rattle.std.proofs.lemmas.List.{take_all}
 use Rattle.granules.specs.Trees.{table}
 use Rattle.operations.specs.declared.operation.Operation.{Operation}
@@ -15,15 +15,15 @@ loop-operation-preserved g c =
     let words = g.S.Shelf.words in
     let ps = table c.args.tree.now in
     let i = c.loop-operation.operation-index in (
-      omega (arith, c.push-reserved.ensures.len, before.0),
-      omega (arith, c.push-reserved.ensures.capacity, before.1),
+      omega (arith, c.push_reserved.ensures.len, before.0),
+      omega (arith, c.push_reserved.ensures.capacity, before.1),
       subst
           (λ (xs : List Outcome).
-          Alone ps (words c.args.shelf.now) (noted (take (i + 1) c.args.operations.now) xs) (words c.carry-out-answer.new.shelf))
-          (sym c.push-reserved.ensures.items)
+          Alone ps (words c.args.shelf.now) (noted (take (i + 1) c.args.operations.now) xs) (words c.carry_out-answer.new.shelf))
+          (sym c.push_reserved.ensures.items)
           (ran_more ps (words c.args.shelf.now) c.args.operations.now (vec_items v) i _
-          c.carry-out-answer.result (words c.loop-operation.shelf) (words c.carry-out-answer.new.shelf)
-          c.loop-operation-test.true long c.carry-out-answer.ensures.value c.carry-out-answer.ensures.after before.2),
+          c.carry_out-answer.result (words c.loop-operation.shelf) (words c.carry_out-answer.new.shelf)
+          c.loop-operation-test.true long c.carry_out-answer.ensures.value c.carry_out-answer.ensures.after before.2),
     )
 
 pub returns : goal.returns

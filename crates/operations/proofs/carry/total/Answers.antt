@@ -1,4 +1,4 @@
-use Rattle.std.proofs.Common.{◌≡◌, ℕ, ◌+◌, ◌≤◌, cond, length, get_or, sym, ap, ◌∙◌, arith}
+use Rattle.std.proofs.Common.{◌≡◌, ℕ, ◌≤◌, length, get_or, sym, ◌∙◌, arith}
 use Rattle.std.proofs.lemmas.Bool.{cond-true, cond-false}
 use Rattle.granules.specs.Below.{sum_below}
 use Rattle.granules.specs.Paths.{record_beneath}
@@ -7,7 +7,7 @@ use Rattle.granules.proofs.Below.{sum_none, sum_same, sum_more}
 use Rattle.granules.proofs.Kept.{size}
 use Rattle.operations.proofs.Places.{sum_bound, word_at}
 use Rattle.operations.proofs.carry.total.Goals as goal
-use Rattle.operations.proofs.carry.total.Goals.{then-is-record-beneath, else-is-record-beneath}
+use Rattle.operations.proofs.carry.total.Goals.{then-is_record_beneath, else-is_record_beneath}
 
 pub loop-r-init : goal.loop-r-init
 loop-r-init g c =
@@ -17,8 +17,8 @@ loop-r-init g c =
     (sum_none c.span-first.result.0 (record_beneath (table t) c.args.granule) (λ r. get_or ws r 0)
     (λ k l b. omega (arith, (c.span-first.ensures.all k b).0)))
 
-pub overflow-add-sum : goal.overflow-add-sum
-overflow-add-sum g c =
+pub overflow_add-sum : goal.overflow_add-sum
+overflow_add-sum g c =
     let t = c.args.tree.now in
     let s = c.args.shelf.now in
     let ws = g.S.Shelf.words s in
@@ -36,12 +36,12 @@ loop-r-preserved g c =
     let test = record_beneath (table t) c.args.granule in
     let more = sum_more r test (λ r. get_or ws r 0) in
     let before = c.loop-r.invariant in
-    elim c.if-is-record-beneath.branch [
-      | then-is-record-beneath w ↦
-          let e = cond-true (test r) (get_or ws r 0) 0 (sym w.if-is-record-beneath.ensures.value) in
+    elim c.if-is_record_beneath.branch [
+      | then-is_record_beneath w ↦
+          let e = cond-true (test r) (get_or ws r 0) 0 (sym w.if-is_record_beneath.ensures.value) in
           omega (arith, w.sum-is, w.word.ensures.value, word_at ws r)
-      | else-is-record-beneath w ↦
-          let e = cond-false (test r) (get_or ws r 0) 0 (sym w.if-is-record-beneath.ensures.value) in
+      | else-is_record_beneath w ↦
+          let e = cond-false (test r) (get_or ws r 0) 0 (sym w.if-is_record_beneath.ensures.value) in
           omega (arith, w.sum-is)
     ]
 

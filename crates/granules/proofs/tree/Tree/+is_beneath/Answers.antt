@@ -1,4 +1,4 @@
-use Rattle.std.proofs.Common.{◌≡◌, sym, ap, ◌∙◌, arith}
+use Rattle.std.proofs.Common.{sym, ap, ◌∙◌, arith}
 use Rattle.granules.specs.Paths.{beneath}
 use Rattle.granules.specs.Trees.{table}
 use Rattle.granules.proofs.Climbs.{settled_found, settled_open, beneath_up}
@@ -14,8 +14,8 @@ returns-in-Some t c =
           (sym c.in-Some.ensures.value);
     }
 
-pub is-beneath-requires : goal.is-beneath-requires
-is-beneath-requires t c =
+pub is_beneath-requires : goal.is_beneath-requires
+is_beneath-requires t c =
     let s = c.args.self.now in
     let o = settled_open c.args.above c.args.granule (sym c.in-None.ensures.value) in
     (omega (arith, tree_falls s c.args.granule o.0, c.parent.ensures.value), tt)
@@ -26,7 +26,7 @@ returns-in-None t c =
     let o = settled_open c.args.above c.args.granule (sym c.in-None.ensures.value) in
     record {
       value =
-          c.is-beneath.ensures.value
+          c.is_beneath.ensures.value
           ∙ ap (beneath (table s) c.args.above) c.parent.ensures.value
           ∙ sym (beneath_up (table s) (tree_falls s) c.args.above c.args.granule o.1 o.0);
     }

@@ -1,4 +1,4 @@
 use Rattle.granules.proofs.tree.Tree.+is_beneath.Given as goal
 
-abbrev pub decreases-is-beneath : goal.decreases-is-beneath
-decreases-is-beneath l = l.granule
+abbrev pub decreases-is_beneath : goal.decreases-is_beneath
+decreases-is_beneath l = l.granule

@@ -1,5 +1,5 @@
-use Rattle.std.proofs.Common.{◌≡◌, ℕ, ◌<◌, List, [], ◌∷◌, ◌++◌, length, sym, ap, ◌∙◌, arith}
-use Rattle.granules.specs.Paths.{path, parent}
+use Rattle.std.proofs.Common.{ℕ, List, [], ◌∷◌, ◌++◌, length, sym, ap, ◌∙◌, arith}
+use Rattle.granules.specs.Paths.{path}
 use Rattle.granules.specs.Trees.{table, steps}
 use Rattle.granules.proofs.Climbs.{path_root, path_step, path_room}
 use Rattle.granules.proofs.Kept.{long, tree_falls, path_inside, path_outside, path_above}

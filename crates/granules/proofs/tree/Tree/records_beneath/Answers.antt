@@ -27,7 +27,7 @@ loop-g-preserved c =
     let test = record_beneath (table t) c.args.granule in
     let more = sum_more g test (λ _. 1) in
     c.counted-count.ensures.value
-    ∙ ap₂ (λ (n : ℕ) (b : Bool). n + cond b 1 0) c.loop-g.invariant c.is-record-beneath.ensures.value
+    ∙ ap₂ (λ (n : ℕ) (b : Bool). n + cond b 1 0) c.loop-g.invariant c.is_record_beneath.ensures.value
     ∙ sym more
 
 pub returns : goal.returns

@@ -4,29 +4,29 @@ use Rattle.granules.proofs.Climbs.{record_parts, record_span, other_span, span_r
 use Rattle.granules.proofs.Kept.{size, tree_falls}
 use Rattle.granules.proofs.tree.Tree.span.Goals as goal
 
-pub end-after-requires : goal.end-after-requires
-end-after-requires c =
+pub end_after-requires : goal.end_after-requires
+end_after-requires c =
     let t = c.args.self.now in
-    let l = (record_parts (table t) c.args.granule (sym c.if-is-record.ensures.value)).0 in
+    let l = (record_parts (table t) c.args.granule (sym c.if-is_record.ensures.value)).0 in
     omega (arith, size t, t.few)
 
-pub returns-then-is-record : goal.returns-then-is-record
-returns-then-is-record c =
+pub returns-then-is_record : goal.returns-then-is_record
+returns-then-is_record c =
     let t = c.args.self.now in
-    let e = sym c.if-is-record.ensures.value in
+    let e = sym c.if-is_record.ensures.value in
     record {
-      value = ap (λ (n : ℕ). (c.args.granule, n)) c.end-after.ensures.value ∙ sym (span_record (table t) c.args.granule e);
+      value = ap (λ (n : ℕ). (c.args.granule, n)) c.end_after.ensures.value ∙ sym (span_record (table t) c.args.granule e);
       all =
           λ k b.
           let s = record_span (table t) (tree_falls t) c.args.granule e k b in
-          (s.0, omega (arith, s.1, c.end-after.ensures.value));
-      bound = omega (arith, (record_parts (table t) c.args.granule e).0, c.end-after.ensures.value);
+          (s.0, omega (arith, s.1, c.end_after.ensures.value));
+      bound = omega (arith, (record_parts (table t) c.args.granule e).0, c.end_after.ensures.value);
     }
 
-pub returns-else-is-record : goal.returns-else-is-record
-returns-else-is-record c =
+pub returns-else-is_record : goal.returns-else-is_record
+returns-else-is_record c =
     let t = c.args.self.now in
-    let e = sym c.if-is-record.ensures.value in
+    let e = sym c.if-is_record.ensures.value in
     record {
       value = ap (λ (n : ℕ). (c.args.granule, n)) (sym (size t)) ∙ sym (span_other (table t) c.args.granule e);
       all =

@@ -1,5 +1,5 @@
-use Rattle.std.proofs.Common.{◌≡◌, ℕ, ◌+◌, ◌<◌, length, sym, ap, ◌∙◌, arith}
-use Rattle.granules.specs.Paths.{path, parent}
+use Rattle.std.proofs.Common.{ℕ, length, sym, ap, ◌∙◌, arith}
+use Rattle.granules.specs.Paths.{path}
 use Rattle.granules.proofs.Climbs.{falls, path_root, path_more, path_long}
 use Rattle.granules.proofs.tree.makes.+depth.Goals as goal
 

@@ -1,10 +1,10 @@
-use Rattle.std.proofs.Common.{◌≡◌, length, take, sym, ap, ◌∙◌, arith, rules}
+use Rattle.std.proofs.Common.{arith, rules}
 use Rattle.std.proofs.lemmas.List.{length-set, take_all, take_more, take_more_set}
 use Rattle.granules.proofs.Climbs.{parent_small}
 use Rattle.granules.proofs.tree.makes.narrowed.Goals as goal
 
-pub overflow-cast-narrow : goal.overflow-cast-narrow
-overflow-cast-narrow c =
+pub overflow_cast-narrow : goal.overflow_cast-narrow
+overflow_cast-narrow c =
     let l = parent_small c.args.parents.now c.requires.rooted c.loop-g.g c.loop-g-test.true in
     omega (arith, c.requires.few)
 

@@ -5,7 +5,7 @@ use Rattle.tables.proofs.core.Core.again.Goals as goal
 
 pub reopen-requires : goal.reopen-requires
 reopen-requires g c =
-    let st = hurt c.status.result (sym c.in-ok-must-be-wounded.ensures.refused) in
+    let st = hurt c.status.result (sym c.in_ok-must_be_wounded.ensures.refused) in
     record {
       seated = has_seat c.args.self.now.seats c.args.job (ap is_ended (sym c.status.ensures.value) ∙ st.0);
       wounded = ap is_wounded (sym c.status.ensures.value) ∙ st.1;

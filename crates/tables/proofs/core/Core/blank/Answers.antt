@@ -3,8 +3,9 @@ use Rattle.tables.specs.Grids.{is_nothing}
 use Rattle.tables.proofs.Lays.{nothing_held, nothing_noted}
 use Rattle.tables.proofs.core.Core.blank.Goals as goal
 
-pub invariant-of-result : goal.invariant-of-result
-invariant-of-result g c = (
-  λ i x free. nothing_held c.new-2.result.rows c.new-2.ensures.rows i x,
-  (λ i x free. ap is_nothing (nothing_noted c.new-3.result.rows c.new-3.ensures.rows i x), tt),
-)
+pub invariant_of-result : goal.invariant_of-result
+invariant_of-result g c =
+    record {
+      unlocked = λ i x free. nothing_held c.new-2.result.rows c.new-2.ensures.rows i x;
+      unnoted = λ i x free. ap is_nothing (nothing_noted c.new-3.result.rows c.new-3.ensures.rows i x);
+    }

@@ -1,4 +1,4 @@
-use Rattle.std.proofs.Common.{◌≡◌, List, sym, ap, ◌∙◌, ap₂}
+use Rattle.std.proofs.Common.{List, sym, ap, ◌∙◌, ap₂}
 use Rattle.granules.specs.Trees.{table}
 use Rattle.ledger.specs.declared.job.Note.{Note}
 use Rattle.ledger.specs.declared.job.Note.TheVariants.{Nothing}
@@ -12,24 +12,22 @@ use Rattle.tables.proofs.Notes.{carry_view}
 use Rattle.tables.proofs.Views.{not_free}
 use Rattle.tables.proofs.core.Core.carry.Goals as goal
 
-pub invariant-of-self : goal.invariant-of-self
-invariant-of-self g c =
-    let t = c.args.self.now in (
-      t.unlocked,
-      (
-        λ i x free.
-            ap (λ (rows : List (List Note)). is_nothing (cell Nothing rows i x)) c.note.ensures.others
-            ∙ ap is_nothing
-            (other_cell Nothing t.noted.rows _ _ i x (λ e. not_free t.seats c.args.job i c.requires free (e ∙ c.slot-of-slot.ensures.value)))
-            ∙ t.unnoted i x free,
-        tt,
-      ),
-    )
+pub invariant_of-self : goal.invariant_of-self
+invariant_of-self g c =
+    let t = c.args.self.now in
+    record {
+      unlocked = t.unlocked;
+      unnoted = λ i x free.
+          ap (λ (rows : List (List Note)). is_nothing (cell Nothing rows i x)) c.note.ensures.others
+          ∙ ap is_nothing
+          (other_cell Nothing t.noted.rows _ _ i x (λ e. not_free t.seats c.args.job i c.requires free (e ∙ c.slot_of-slot.ensures.value)))
+          ∙ t.unnoted i x free;
+    }
 
 pub returns : goal.returns
 returns g c =
     let t = c.args.self.now in
-    let here = sym c.slot-of-slot.ensures.value in
+    let here = sym c.slot_of-slot.ensures.value in
     let left = c.work.new.self in
     record {
       value = c.work.ensures.value;

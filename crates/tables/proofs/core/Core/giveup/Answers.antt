@@ -5,5 +5,5 @@ use Rattle.tables.proofs.core.Core.giveup.Goals as goal
 
 pub withdraw-requires : goal.withdraw-requires
 withdraw-requires g c =
-    let st = lives c.status.result (sym c.in-ok-must-not-have-ended.ensures.refused) in
+    let st = lives c.status.result (sym c.in_ok-must_not_have_ended.ensures.refused) in
     has_seat c.args.self.now.seats c.args.job (ap is_ended (sym c.status.ensures.value) ∙ st)

@@ -1,4 +1,4 @@
-use Rattle.std.proofs.Common.{◌≡◌, ◌<◌, sym, ap, ◌∙◌, subst}
+use Rattle.std.proofs.Common.{◌<◌, sym, ap, ◌∙◌, subst}
 use Rattle.ledger.specs.declared.job.Status.{Status}
 use Rattle.ledger.specs.Jobs.{is_ended, is_open}
 use Rattle.ledger.specs.Ledgers.{wanted}
@@ -6,10 +6,10 @@ use Rattle.tables.specs.Seats.{slot}
 use Rattle.tables.proofs.Table.{has_seat}
 use Rattle.tables.proofs.core.Core.go.Goals as goal
 
-pub try-out-requires : goal.try-out-requires
-try-out-requires g c =
+pub try_out-requires : goal.try_out-requires
+try_out-requires g c =
     let t = c.args.self.now in
-    let is = sym c.status.ensures.value ∙ c.in-ok-operation.ensures.made in
+    let is = sym c.status.ensures.value ∙ c.in_ok-operation.ensures.made in
     record {
       seated = has_seat t.seats c.args.job (ap is_ended is);
       opened = ap is_open is;

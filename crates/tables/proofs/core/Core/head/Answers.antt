@@ -1,4 +1,4 @@
-use Rattle.std.proofs.Common.{◌≡◌, List, sum, ap, ◌∙◌}
+use Rattle.std.proofs.Common.{sum, ap, ◌∙◌}
 use Rattle.tables.proofs.Heads.{group_agrees, holders_agree}
 use Rattle.tables.proofs.core.Core.head.Goals as goal
 

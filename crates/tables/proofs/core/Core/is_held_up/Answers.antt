@@ -6,13 +6,13 @@ use Rattle.tables.specs.Meetings.{holds_up_at}
 use Rattle.tables.proofs.Meetings.{held_up, not_held_up}
 use Rattle.tables.proofs.core.Core.is_held_up.Goals as goal
 
-pub returns-then-holds-up-at : goal.returns-then-holds-up-at
-returns-then-holds-up-at g c =
+pub returns-then-holds_up_at : goal.returns-then-holds_up_at
+returns-then-holds_up_at g c =
     record {
       value =
           sym
           (held_up g.M.ModeSystem.meaning g.met.M.ModeSystem.lawful g.S.Shelf.words c.args.self.now c.args.asker c.args.granule c.args.target
-          c.loop-slot.slot (omega arith) (sym c.if-holds-up-at.ensures.value));
+          c.loop-slot.slot (omega arith) (sym c.if-holds_up_at.ensures.value));
     }
 
 pub loop-slot-preserved : goal.loop-slot-preserved
@@ -21,7 +21,7 @@ loop-slot-preserved g c =
     holds_up_at g.M.ModeSystem.meaning c.args.self.now.seats c.args.self.now.held c.args.asker c.args.granule c.args.target
     in
     some_more c.loop-slot.slot here
-    ∙ or_from (some_below c.loop-slot.slot here) (here c.loop-slot.slot) c.loop-slot.invariant (sym c.if-holds-up-at.ensures.value)
+    ∙ or_from (some_below c.loop-slot.slot here) (here c.loop-slot.slot) c.loop-slot.invariant (sym c.if-holds_up_at.ensures.value)
 
 pub returns : goal.returns
 returns g c =

@@ -1,4 +1,4 @@
-use Rattle.std.proofs.Common.{◌≡◌, ℕ, List, get_or, set, ap, ◌∙◌}
+use Rattle.std.proofs.Common.{ℕ, List, get_or, set, ap, ◌∙◌}
 use Rattle.std.proofs.lemmas.List.{take_all}
 use Rattle.tables.specs.declared.held.Held.{Held}
 use Rattle.tables.specs.declared.noted.Noted.{Noted}
@@ -9,11 +9,12 @@ use Rattle.ledger.specs.Models.{fresh}
 use Rattle.tables.proofs.Lays.{nothing_held, nothing_noted, blank_view, over_more}
 use Rattle.tables.proofs.core.Core.lay.Goals as goal
 
-pub invariant-of-self : goal.invariant-of-self
-invariant-of-self g c = (
-  λ i x free. nothing_held c.new-self-2.result.rows c.new-self-2.ensures.rows i x,
-  (λ i x free. ap is_nothing (nothing_noted c.new-self-3.result.rows c.new-self-3.ensures.rows i x), tt),
-)
+pub invariant_of-self : goal.invariant_of-self
+invariant_of-self g c =
+    record {
+      unlocked = λ i x free. nothing_held c.new-self-2.result.rows c.new-self-2.ensures.rows i x;
+      unnoted = λ i x free. ap is_nothing (nothing_noted c.new-self-3.result.rows c.new-self-3.ensures.rows i x);
+    }
 
 pub loop-place-preserved : goal.loop-place-preserved
 loop-place-preserved g c =

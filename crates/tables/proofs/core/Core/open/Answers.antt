@@ -3,7 +3,7 @@ use Rattle.std.proofs.lemmas.Bool.{le-leb, lt-leb}
 use Rattle.ledger.specs.declared.call.Answer.TheVariants.{Job}
 use Rattle.ledger.specs.declared.call.Call.TheVariants.{Open}
 use Rattle.ledger.specs.declared.refusal.Refusal.TheVariants.{TooManyJobs, NumbersUsedUp}
-use Rattle.ledger.specs.Models.{Model, Served}
+use Rattle.ledger.specs.Models.{Model}
 use Rattle.tables.specs.Seats.{place}
 use Rattle.tables.specs.Views.{model, jobs_of}
 use Rattle.tables.proofs.Counts.{all_taken, one_free}
@@ -14,7 +14,7 @@ use Rattle.tables.proofs.core.Core.open.Goals as goal
 pub returns-then-slot-ge16 : goal.returns-then-slot-ge16
 returns-then-slot-ge16 g c =
     let t = c.args.self.now in
-    let full : place t.seats.numbers 0 ≡ 16 = omega (arith, c.free-slot-slot.ensures.value, c.free-slot-slot.ensures.bound) in
+    let full : place t.seats.numbers 0 ≡ 16 = omega (arith, c.free_slot-slot.ensures.value, c.free_slot-slot.ensures.bound) in
     record {
       served =
           λ y.
@@ -24,7 +24,7 @@ returns-then-slot-ge16 g c =
 pub returns-then-opened-ge1000000 : goal.returns-then-opened-ge1000000
 returns-then-opened-ge1000000 g c =
     let t = c.args.self.now in
-    let room : place t.seats.numbers 0 < 16 = omega (arith, c.free-slot-slot.ensures.value) in
+    let room : place t.seats.numbers 0 < 16 = omega (arith, c.free_slot-slot.ensures.value) in
     record {
       served =
           λ y.
@@ -39,15 +39,15 @@ seat-requires g c =
     record {
       within = omega arith;
       vacant =
-          ap (λ (i : ℕ). get_or t.numbers i 0) c.free-slot-slot.ensures.value
-          ∙ place_at t.numbers 0 (omega (arith, c.free-slot-slot.ensures.value, t.full.0));
+          ap (λ (i : ℕ). get_or t.numbers i 0) c.free_slot-slot.ensures.value
+          ∙ place_at t.numbers 0 (omega (arith, c.free_slot-slot.ensures.value, t.full.0));
       left = omega (arith, c.opened.ensures.value);
     }
 
 pub returns : goal.returns
 returns g c =
     let t = c.args.self.now in
-    let room : place t.seats.numbers 0 < 16 = omega (arith, c.free-slot-slot.ensures.value) in
+    let room : place t.seats.numbers 0 < 16 = omega (arith, c.free_slot-slot.ensures.value) in
     record {
       served =
           λ y.

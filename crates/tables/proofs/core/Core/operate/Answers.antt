@@ -6,9 +6,9 @@ use Rattle.ledger.specs.Jobs.{is_ended, is_open}
 use Rattle.tables.proofs.Table.{has_seat, works}
 use Rattle.tables.proofs.core.Core.operate.Goals as goal
 
-pub try-out-requires : goal.try-out-requires
-try-out-requires g c =
-    let st = works c.status.result (sym c.in-ok-must-work.ensures.refused) in
+pub try_out-requires : goal.try_out-requires
+try_out-requires g c =
+    let st = works c.status.result (sym c.in_ok-must_work.ensures.refused) in
     let tree = c.args.tree.now in
     let inside = ltb-true c.args.operation.granule (length (table tree)) (sym c.if-not-has.ensures.value) in
     record {

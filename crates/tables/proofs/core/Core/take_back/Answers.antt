@@ -1,4 +1,4 @@
-use Rattle.std.proofs.Common.{◌≡◌, ℕ, ◌+◌, ◌≤◌, List, [], get_or, set, refl, ap, ◌∙◌, arith}
+use Rattle.std.proofs.Common.{ℕ, List, [], get_or, set, refl, ap, ◌∙◌, arith}
 use Rattle.ledger.specs.declared.job.Note.{Note}
 use Rattle.ledger.specs.declared.job.Note.TheVariants.{Nothing}
 use Rattle.ledger.specs.Models.{back}
@@ -25,13 +25,13 @@ loop-place-preserved g c =
     let ws = g.S.Shelf.words start.shelf in
     let f : ℕ → ℕ → ℕ = λ r w. back (cell Nothing start.noted.rows c.args.slot r) w in
     let r = c.loop-place.place in (
-      c.take-back-at.ensures.words
+      c.take_back_at.ensures.words
           ∙ ap (λ (n : Noted). set (g.S.Shelf.words c.loop-place.self.shelf) r (back (cell Nothing n.rows c.args.slot r) (get_or (g.S.Shelf.words c.loop-place.self.shelf) r 0))) inv.3
           ∙ ap (λ (xs : List ℕ). set xs r (f r (get_or xs r 0))) inv.0
           ∙ sweep_more r f ws,
-      c.take-back-at.ensures.seats ∙ inv.1,
-      c.take-back-at.ensures.held ∙ inv.2,
-      c.take-back-at.ensures.noted ∙ inv.3,
+      c.take_back_at.ensures.seats ∙ inv.1,
+      c.take_back_at.ensures.held ∙ inv.2,
+      c.take_back_at.ensures.noted ∙ inv.3,
     )
 
 pub returns : goal.returns

@@ -1,4 +1,4 @@
-use Rattle.std.proofs.Common.{◌≡◌, get_or, set, sym, refl, ap, ◌∙◌}
+use Rattle.std.proofs.Common.{get_or, set, sym, refl, ap, ◌∙◌}
 use Rattle.std.proofs.lemmas.List.{set-get_or, set_past}
 use Rattle.ledger.specs.declared.job.Note.{Note}
 use Rattle.ledger.specs.Models.{back}
@@ -19,11 +19,11 @@ returns-in-Nothing g c =
       noted = refl;
     }
 
-pub returns-in-default-get : goal.returns-in-default-get
-returns-in-default-get g c =
+pub returns-in_default-get : goal.returns-in_default-get
+returns-in_default-get g c =
     let ws = g.S.Shelf.words c.args.self.now.shelf in
     record {
-      words = sym (set_past ws c.args.place _ (at_none ws c.args.place (sym c.get.ensures.value ∙ c.in-default-get.is)));
+      words = sym (set_past ws c.args.place _ (at_none ws c.args.place (sym c.get.ensures.value ∙ c.in_default-get.is)));
       seats = refl;
       held = refl;
       noted = refl;

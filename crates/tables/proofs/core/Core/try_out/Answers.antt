@@ -1,7 +1,7 @@
-use Rattle.std.proofs.Common.{◌≡◌, ℕ, ◌<◌, List, sym, ap, ◌∙◌, ap₂, arith}
+use Rattle.std.proofs.Common.{ℕ, List, sym, ap, ◌∙◌, ap₂, arith}
 use Rattle.operations.specs.declared.operation.Outcome.{Outcome}
 use Rattle.ledger.specs.declared.call.Answer.TheVariants.{Told}
-use Rattle.ledger.specs.Models.{Model, Served}
+use Rattle.ledger.specs.Models.{Model}
 use Rattle.tables.specs.Seats.{slot}
 use Rattle.tables.specs.Turns.{layout}
 use Rattle.tables.specs.Views.{model}

@@ -1,5 +1,4 @@
-use Rattle.std.proofs.Common.{◌≡◌, get_or, set, sym, ap, ◌∙◌}
-use Rattle.ledger.specs.declared.job.Status.{Status}
+use Rattle.std.proofs.Common.{get_or, set, sym, ap, ◌∙◌}
 use Rattle.ledger.specs.declared.job.Status.TheVariants.{Ended}
 use Rattle.tables.specs.Seats.{slot}
 use Rattle.tables.proofs.Slots.{wounds}
@@ -10,7 +9,7 @@ use Rattle.tables.proofs.core.Core.wound_job.Goals as goal
 pub returns : goal.returns
 returns g c =
     let done = c.wound.ensures in
-    let here = sym c.slot-of-slot.ensures.value in
+    let here = sym c.slot_of-slot.ensures.value in
     let t = c.args.self.now.seats in
     let i = slot t.numbers c.args.job in
     record {

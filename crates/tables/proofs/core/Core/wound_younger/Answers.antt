@@ -2,13 +2,13 @@ use Rattle.std.proofs.Common.{◌≡◌, ℕ, suc, ◌-◌, ◌<◌, sym, ap, �
 use Rattle.tables.specs.Seats.{next_above}
 use Rattle.tables.proofs.Meetings.{Reached, far, begin, has_slot, nearer_end, again, end}
 use Rattle.tables.proofs.core.Core.wound_younger.Goals as goal
-use Rattle.tables.proofs.core.Core.wound_younger.Goals.{After-next-above-job-in-loop-job, at·loop-job-less, at·loop-job-again}
+use Rattle.tables.proofs.core.Core.wound_younger.Goals.{After-next_above-job-in-loop-job, at-loop-job-smaller, at-loop-job-preserved}
 
 pub loop-job-init : goal.loop-job-init
 loop-job-init g c =
     let start = c.args.self.now in
     subst (λ (job : ℕ). Reached g.M.ModeSystem.meaning g.met.M.ModeSystem.lawful g.S.Shelf.words start c.args.asker c.args.granule c.args.target start job)
-    (sym c.next-above-job.ensures.value)
+    (sym c.next_above-job.ensures.value)
     (begin g.M.ModeSystem.meaning g.met.M.ModeSystem.lawful g.S.Shelf.words start c.args.asker c.args.granule c.args.target)
 
 pub meet-requires : goal.meet-requires
@@ -22,10 +22,10 @@ meet-requires g c =
 
 -- the next job, by the numbers that there were at the start
 next_is :
-    (g : _) (c : goal.After-next-above-job-in-loop-job g)
-    → c.next-above-job-in-loop-job.result ≡ next_above c.loop-job.job c.args.self.now.seats.numbers
+    (g : _) (c : goal.After-next_above-job-in-loop-job g)
+    → c.next_above-job-in-loop-job.result ≡ next_above c.loop-job.job c.args.self.now.seats.numbers
 next_is g c =
-    c.next-above-job-in-loop-job.ensures.value ∙ ap (next_above c.loop-job.job) (c.meet.ensures.numbers ∙ c.loop-job.invariant.numbers)
+    c.next_above-job-in-loop-job.ensures.value ∙ ap (next_above c.loop-job.job) (c.meet.ensures.numbers ∙ c.loop-job.invariant.numbers)
 
 pub loop-job-smaller : goal.loop-job-smaller
 loop-job-smaller g c =
@@ -38,14 +38,14 @@ loop-job-smaller g c =
     let less : suc start.seats.opened - far start.seats.opened (next_above job start.seats.numbers) < suc start.seats.opened - far start.seats.opened job =
     omega (arith, near.0, near.1, near.2)
     in
-    subst (λ (j : ℕ). suc start.seats.opened - far start.seats.opened j < suc start.seats.opened - far start.seats.opened job) (sym (next_is g (at·loop-job-less g c).After-next-above-job-in-loop-job)) less
+    subst (λ (j : ℕ). suc start.seats.opened - far start.seats.opened j < suc start.seats.opened - far start.seats.opened job) (sym (next_is g (at-loop-job-smaller g c).After-next_above-job-in-loop-job)) less
 
 pub loop-job-preserved : goal.loop-job-preserved
 loop-job-preserved g c =
     let start = c.args.self.now in
     let job = c.loop-job.job in
     subst (λ (j : ℕ). Reached g.M.ModeSystem.meaning g.met.M.ModeSystem.lawful g.S.Shelf.words start c.args.asker c.args.granule c.args.target c.meet.new.self j)
-    (sym (next_is g (at·loop-job-again g c).After-next-above-job-in-loop-job))
+    (sym (next_is g (at-loop-job-preserved g c).After-next_above-job-in-loop-job))
     (again g.M.ModeSystem.meaning g.met.M.ModeSystem.lawful g.S.Shelf.words start c.args.asker c.args.granule c.args.target
     c.loop-job.self c.meet.new.self job c.loop-job-test.true c.loop-job.invariant c.meet.ensures.numbers c.meet.ensures.model)
 

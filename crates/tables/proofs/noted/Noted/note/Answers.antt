@@ -1,4 +1,4 @@
-use Rattle.std.proofs.Common.{◌≡◌, ℕ, ◌+◌, ◌<◌, ◌≤◌, List, [], length, get_or, set, Option, unwrap_or, sym, refl, ap, ◌∙◌, subst, ap₂, inl, inr, arith}
+use Rattle.std.proofs.Common.{◌≡◌, ℕ, ◌+◌, ◌<◌, List, [], length, get_or, set, Option, unwrap_or, sym, refl, ap, ◌∙◌, subst, ap₂, inl, inr, arith}
 use Rattle.std.proofs.lemmas.List.{set-get_or}
 use Rattle.std.proofs.lemmas.Bool.{cases_Bool}
 use Rattle.granules.specs.Paths.{record_beneath}
@@ -15,7 +15,7 @@ use Rattle.tables.proofs.Grids.{long_at}
 use Rattle.tables.proofs.Notes.{noted_there, noted_else, noted_still}
 use Rattle.tables.proofs.Sweeps.{Swept, not_yet, swept_from, swept_all, swept_skip, swept_put, only_slot}
 use Rattle.tables.proofs.noted.Noted.note.Goals as goal
-use Rattle.tables.proofs.noted.Noted.note.Goals.{then-is-record-beneath, else-is-record-beneath}
+use Rattle.tables.proofs.noted.Noted.note.Goals.{then-is_record_beneath, else-is_record_beneath}
 
 pub returns-in-Read : goal.returns-in-Read
 returns-in-Read g c =
@@ -57,28 +57,28 @@ loop-place-preserved g c =
     let old : ℕ → Note = cell Nothing start.rows s in
     let f : ℕ → Note = λ r. noted_at ps o ws r (old r) in
     let within : s < length t.rows = omega (arith, t.full, c.requires) in
-    elim c.if-is-record-beneath.branch [
-      | then-is-record-beneath w ↦
+    elim c.if-is_record_beneath.branch [
+      | then-is_record_beneath w ↦
           let here : cell Nothing t.rows s p ≡ old p = c.loop-place.invariant.1 p ∙ not_yet Nothing s f old p p (omega arith) in
           let v : w.noted-note.result ≡ f p =
           w.noted-note.ensures.value
-          ∙ ap₂ (λ (x : ℕ) (n : Note). noted o.action x n) (w.unwrap-or-word.ensures ∙ ap (λ (x : Option ℕ). unwrap_or x 0) w.get.ensures.value ∙ word_at ws p) (w.get-then-is-record-beneath.ensures.value ∙ here)
-          ∙ sym (noted_there ps o ws p (old p) (sym w.if-is-record-beneath.ensures.value))
+          ∙ ap₂ (λ (x : ℕ) (n : Note). noted o.action x n) (w.unwrap_or-word.ensures ∙ ap (λ (x : Option ℕ). unwrap_or x 0) w.get.ensures.value ∙ word_at ws p) (w.get-then-is_record_beneath.ensures.value ∙ here)
+          ∙ sym (noted_there ps o ws p (old p) (sym w.if-is_record_beneath.ensures.value))
           in
-          let put : c.if-is-record-beneath.self.rows ≡ with_cell t.rows s p w.noted-note.result =
+          let put : c.if-is_record_beneath.self.rows ≡ with_cell t.rows s p w.noted-note.result =
           ap (λ (n : Noted). n.rows) w.self-is ∙ w.put.ensures.rows
           in (
-            only_slot start.rows t.rows c.if-is-record-beneath.self.rows s p w.noted-note.result within c.loop-place.invariant.0 put,
+            only_slot start.rows t.rows c.if-is_record_beneath.self.rows s p w.noted-note.result within c.loop-place.invariant.0 put,
             λ r.
                 ap (λ (rows : List (List Note)). cell Nothing rows s r) put
                 ∙ swept_put Nothing s f old t.rows p w.noted-note.result within
                 (omega (arith, long_at 256 t.rows s within t.long, c.span-first.ensures.bound, size c.args.tree.now, c.args.tree.now.few, c.loop-place-test.true))
                 v c.loop-place.invariant.1 r,
           )
-      | else-is-record-beneath w ↦
-          let same : c.if-is-record-beneath.self.rows ≡ t.rows = ap (λ (n : Noted). n.rows) w.self-is in
+      | else-is_record_beneath w ↦
+          let same : c.if-is_record_beneath.self.rows ≡ t.rows = ap (λ (n : Noted). n.rows) w.self-is in
           subst (λ (rows : List (List Note)). (rows ≡ set start.rows s (get_or rows s [])) × Swept Nothing s f old (p + 1) rows) (sym same)
-          (c.loop-place.invariant.0, swept_skip Nothing s f old t.rows p (noted_else ps o ws p (old p) (sym w.if-is-record-beneath.ensures.value)) c.loop-place.invariant.1)
+          (c.loop-place.invariant.0, swept_skip Nothing s f old t.rows p (noted_else ps o ws p (old p) (sym w.if-is_record_beneath.ensures.value)) c.loop-place.invariant.1)
     ]
 
 pub returns : goal.returns

@@ -3,12 +3,10 @@ use Rattle.std.proofs.lemmas.List.{length-set}
 use Rattle.tables.proofs.Grids.{long_put}
 use Rattle.tables.proofs.noted.Noted.put.Goals as goal
 
-pub invariant-of-self : goal.invariant-of-self
-invariant-of-self c =
-    let t = c.args.self.now in (
-      length-set t.rows c.args.slot (set (get_or t.rows c.args.slot []) c.args.granule c.args.value) ∙ t.full,
-      (
-        long_put 256 t.rows c.args.slot c.args.granule c.args.value (omega (arith, t.full, c.requires.slot)) t.long,
-        tt,
-      ),
-    )
+pub invariant_of-self : goal.invariant_of-self
+invariant_of-self c =
+    let t = c.args.self.now in
+    record {
+      full = length-set t.rows c.args.slot (set (get_or t.rows c.args.slot []) c.args.granule c.args.value) ∙ t.full;
+      long = long_put 256 t.rows c.args.slot c.args.granule c.args.value (omega (arith, t.full, c.requires.slot)) t.long;
+    }

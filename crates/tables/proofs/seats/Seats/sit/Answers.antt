@@ -9,29 +9,21 @@ use Rattle.tables.proofs.Places.{distinct_new, given_set, given_more}
 use Rattle.tables.proofs.Slots.{opens, free_set, near_set}
 use Rattle.tables.proofs.seats.Seats.sit.Goals as goal
 
-pub invariant-of-self : goal.invariant-of-self
-invariant-of-self c =
+pub invariant_of-self : goal.invariant_of-self
+invariant_of-self c =
     let t = c.args.self.now in
     let ended : is_ended (get_or t.states c.args.slot Ended) ≡ true =
     sym (t.free c.args.slot) ∙ eq-eqb (get_or t.numbers c.args.slot 0) 0 c.requires.vacant
-    in (
-      (length-set t.numbers _ _ ∙ t.full.0, length-set t.states _ _ ∙ t.full.1),
-      (
-        distinct_new t.opened t.numbers _ _ (omega (arith, c.next-number-number.ensures.value)) t.known t.apart,
-        (
-          given_set _ t.numbers _ _ (omega arith) (given_more t.opened _ t.numbers (omega (arith, c.next-number-number.ensures.value)) t.known),
-          (
-            free_set t.numbers t.states _ _ _ (omega (arith, t.full.0, c.requires.within)) (omega (arith, t.full.1, c.requires.within)) t.free
-                (ne_eqb _ 0 (λ (z : _ ≡ 0). omega (arith, c.next-number-number.ensures.value)) ∙ sym (ap is_ended (c.next.ensures.value ∙ opens (get_or t.states c.args.slot Ended) ended))),
-            (
-              near_set t.states _ _ (omega (arith, t.full.1, c.requires.within)) t.near
-                  (subst (λ (x : Status). (wanted x).granule < 256) (sym (c.next.ensures.value ∙ opens (get_or t.states c.args.slot Ended) ended)) (lit< tt)),
-              tt,
-            ),
-          ),
-        ),
-      ),
-    )
+    in
+    record {
+      full = (length-set t.numbers _ _ ∙ t.full.0, length-set t.states _ _ ∙ t.full.1);
+      apart = distinct_new t.opened t.numbers _ _ (omega (arith, c.next_number-number.ensures.value)) t.known t.apart;
+      known = given_set _ t.numbers _ _ (omega arith) (given_more t.opened _ t.numbers (omega (arith, c.next_number-number.ensures.value)) t.known);
+      free = free_set t.numbers t.states _ _ _ (omega (arith, t.full.0, c.requires.within)) (omega (arith, t.full.1, c.requires.within)) t.free
+          (ne_eqb _ 0 (λ (z : _ ≡ 0). omega (arith, c.next_number-number.ensures.value)) ∙ sym (ap is_ended (c.next.ensures.value ∙ opens (get_or t.states c.args.slot Ended) ended)));
+      near = near_set t.states _ _ (omega (arith, t.full.1, c.requires.within)) t.near
+          (subst (λ (x : Status). (wanted x).granule < 256) (sym (c.next.ensures.value ∙ opens (get_or t.states c.args.slot Ended) ended)) (lit< tt));
+    }
 
 pub returns : goal.returns
 returns c =
@@ -40,7 +32,7 @@ returns c =
     sym (t.free c.args.slot) ∙ eq-eqb (get_or t.numbers c.args.slot 0) 0 c.requires.vacant
     in
     record {
-      numbers = ap (set t.numbers c.args.slot) c.next-number-number.ensures.value;
+      numbers = ap (set t.numbers c.args.slot) c.next_number-number.ensures.value;
       states = ap (set t.states c.args.slot) (c.next.ensures.value ∙ opens (get_or t.states c.args.slot Ended) ended);
-      opened = c.next-number-number.ensures.value;
+      opened = c.next_number-number.ensures.value;
     }

@@ -9,17 +9,17 @@ returns-then-slot-ge16 c =
     record {
       value =
           sym
-          (ap (λ (i : ℕ). get_or t.states i Ended) (sym c.slot-of-slot.ensures.value)
-          ∙ get_or_past t.states c.slot-of-slot.result Ended (omega (arith, t.full.1))
+          (ap (λ (i : ℕ). get_or t.states i Ended) (sym c.slot_of-slot.ensures.value)
+          ∙ get_or_past t.states c.slot_of-slot.result Ended (omega (arith, t.full.1))
           );
     }
 
 pub returns : goal.returns
 returns c =
     let t = c.args.self.now in
-    let i = c.slot-of-slot.result in
+    let i = c.slot_of-slot.result in
     record {
       value =
           get_or_default t.states i Working Ended (omega (arith, t.full.1))
-          ∙ ap (λ (j : ℕ). get_or t.states j Ended) c.slot-of-slot.ensures.value;
+          ∙ ap (λ (j : ℕ). get_or t.states j Ended) c.slot_of-slot.ensures.value;
     }
