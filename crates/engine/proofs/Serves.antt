@@ -14,7 +14,7 @@ use Rattle.ledger.specs.Promises.{Promise}
 use Rattle.ledger.specs.Models as models
 use Rattle.ledger.specs.Models.{Model, fresh, serve, history, served, grant, refused_or}
 use Rattle.ledger.proofs.Promised.{promise_kept}
-use Rattle.tables.specs.declared.core.Core.{Core}
+use Rattle.tables.specs.declared.kernel.Core.{Core}
 use Rattle.tables.specs.Turns.{layout}
 use Rattle.tables.specs.Views.{model}
 use Rattle.engine.specs.States.{State, state_by, first_call, laid_by, nothing_yet, bare, laid, Stepped, step, HasHistory, Keeps, Promised, Served, words_of}

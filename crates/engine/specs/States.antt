@@ -16,7 +16,7 @@ use Rattle.ledger.specs.Refusals.{Facts, refusal}
 use Rattle.ledger.specs.Ledgers.{Layout, Event}
 use Rattle.ledger.specs.Promises.{Promise}
 use Rattle.ledger.specs.Models.{Model, fresh, serve, history, served}
-use Rattle.tables.specs.declared.core.Core.{Core}
+use Rattle.tables.specs.declared.kernel.Core.{Core}
 use Rattle.engine.specs.declared.engine.Engine.{Engine}
 use Rattle.tables.specs.Views.{model, words_on, over}
 

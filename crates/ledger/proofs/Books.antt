@@ -2,7 +2,7 @@
 -- taken back, carries out an operation, or commits.
 use Rattle.std.proofs.Common.{◌≡◌, ℕ, suc, ◌+◌, ◌%◌, ◌<◌, ◌≤◌, Bool, true, false, ◌&&◌, ◌||◌, List, [], ◌∷◌, ◌++◌, length, get_or, sym, refl, ap, ◌∙◌, subst, inl, inr, append_assoc, append-nil, arith}
 use mathlib.Core.Path.{fun_ext}
-use Rattle.std.specs.List.{AllByRecursion as All}
+use Rattle.std.specs.List.{AllByRecursion}
 use Rattle.std.proofs.lemmas.List.{ext_get_or, get_or_past}
 use Rattle.std.proofs.lemmas.Bool.{cases_eq, cases_lt, cases_Bool, and_parts, or_cases, or_left, or_right, and_from, both_ways}
 use Rattle.modes.specs.declared.kind.Kind.{Kind}
@@ -87,7 +87,7 @@ module _ (ps : List ℕ) where
 
   -- where one job has set, an operation that is apart from it does not reach
   pub set_shuts :
-      (ss : List Step) (r : ℕ) (o : Operation) → sets_at ps r ss ≡ true → All (λ s. Apart ps s.0 o) ss
+      (ss : List Step) (r : ℕ) (o : Operation) → sets_at ps r ss ≡ true → AllByRecursion (λ s. Apart ps s.0 o) ss
       → record_beneath ps o.granule r ≡ false
   set_shuts [] r o e h = absurd (both_ways false refl e)
   set_shuts (s ∷ ss) r o e h =
@@ -370,7 +370,7 @@ module _ (ps start : List ℕ) (fits : Fit start) where
 
     -- An operation of job j that is apart from the steps of all others.
     pub carry_one :
-        (j : ℕ) (o : Operation) → j < n → ((i : ℕ) → (i ≡ j → ⊥) → All (λ s. Apart ps s.0 o) (live i))
+        (j : ℕ) (o : Operation) → j < n → ((i : ℕ) → (i ≡ j → ⊥) → AllByRecursion (λ s. Apart ps s.0 o) (live i))
         → Good ps start done (put j (live j ++ (o, answer ps o ws) ∷ []) live) n (after ps o ws)
         (put j (λ r. elim (record_beneath ps o.granule r) [ true ↦ noted o.action (get_or ws r 0) (notes j r) | false ↦ notes j r ]) notes)
     carry_one j o l apart =

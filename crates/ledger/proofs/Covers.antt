@@ -1,6 +1,6 @@
 -- Jobs whose modes stand together, and that cover what they did, do not collide.
 use Rattle.std.proofs.Common.{◌≡◌, ℕ, Bool, true, false, ◌&&◌, eqb, List, [], ◌∷◌, ◌++◌, sym, refl, ap, ◌∙◌, subst, inl, inr, append_assoc, append-nil}
-use Rattle.std.specs.List.{AllByRecursion as All}
+use Rattle.std.specs.List.{AllByRecursion}
 use Rattle.std.proofs.lemmas.Bool.{and_parts, and_from, or_cases, or_left, or_right, both_ways, eqb-true}
 use Rattle.modes.specs.declared.kind.Kind.{Kind}
 use Rattle.modes.specs.Kinds.{commutes}
@@ -127,7 +127,7 @@ module _ (s : System) (law : Lawful s) where
         (covered_front s m' (kind p.action) (path ps p.granule) to_p.0 b))
 
     pub apart_each : (ss : List Step) (o : Operation) → Covers s ps m ss → covered s m' (kind o.action) (path ps o.granule) ≡ true
-        → All (λ t. Apart ps t.0 o) ss
+        → AllByRecursion (λ t. Apart ps t.0 o) ss
     apart_each [] o c b = tt
     apart_each (t ∷ ts) o c b = (apart_one_one t.0 o c.0 b, apart_each ts o c.1 b)
 
@@ -138,6 +138,6 @@ module _ (s : System) (law : Lawful s) where
       where
         one :
             (t : Step) (ts : List Step) → covered s m (kind t.0.action) (path ps t.0.granule) ≡ true → Covers s ps m' ts
-            → All (λ u. Apart ps t.0 u.0) ts
+            → AllByRecursion (λ u. Apart ps t.0 u.0) ts
         one t [] c d = tt
         one t (u ∷ us) c d = (apart_one_one t.0 u.0 c d.0, one t us c d.1)

@@ -1,6 +1,6 @@
 -- Runs of steps: cut, joined, moved past one another, and what they do to one place.
 use Rattle.std.proofs.Common.{◌≡◌, ℕ, ◌<◌, List, [], ◌∷◌, ◌++◌, length, get_or, sym, refl, ap, ◌∙◌, subst, arith}
-use Rattle.std.specs.List.{AllByRecursion as All}
+use Rattle.std.specs.List.{AllByRecursion}
 use Rattle.operations.specs.Words.{after, left_at}
 use Rattle.operations.specs.Alone.{Step, Alone}
 use Rattle.ledger.specs.Collisions.{Apart, ListsApart}
@@ -38,7 +38,7 @@ module _ (ps : List ℕ) where
       join p ys ws r.0 out r.1 (h r.0 out r.2)
 
   -- a step past a list, and a list past a list
-  past : (s : Step) (ys rest : List Step) → All (λ t. Apart ps s.0 t.0) ys → Alike (s ∷ (ys ++ rest)) (ys ++ s ∷ rest)
+  past : (s : Step) (ys rest : List Step) → AllByRecursion (λ t. Apart ps s.0 t.0) ys → Alike (s ∷ (ys ++ rest)) (ys ++ s ∷ rest)
   past s [] rest h ws out a = a
   past s (y ∷ ys) rest h ws out a =
       let b = swap ps s y (ys ++ rest) ws out h.0 a in
@@ -50,7 +50,7 @@ module _ (ps : List ℕ) where
       past x ys (xs ++ rest) h.0 ws out (a.0, exchange xs ys rest h.1 (after ps x.0 ws) out a.1)
 
   -- being apart goes both ways, and over lists put together
-  pub apart_one : (t : Step) (ss : List Step) → All (λ s. Apart ps t.0 s.0) ss → All (λ s. Apart ps s.0 t.0) ss
+  pub apart_one : (t : Step) (ss : List Step) → AllByRecursion (λ s. Apart ps t.0 s.0) ss → AllByRecursion (λ s. Apart ps s.0 t.0) ss
   apart_one t [] h = tt
   apart_one t (s ∷ ss) h = (apart_comm ps t.0 s.0 h.0, apart_one t ss h.1)
 
@@ -59,7 +59,7 @@ module _ (ps : List ℕ) where
   apart_none (t ∷ ts) = (tt, apart_none ts)
 
   cons_apart :
-      (s : Step) (ss ts : List Step) → All (λ t. Apart ps t.0 s.0) ts → ListsApart ps ts ss → ListsApart ps ts (s ∷ ss)
+      (s : Step) (ss ts : List Step) → AllByRecursion (λ t. Apart ps t.0 s.0) ts → ListsApart ps ts ss → ListsApart ps ts (s ∷ ss)
   cons_apart s ss [] h k = tt
   cons_apart s ss (t ∷ ts) h k = ((h.0, k.0), cons_apart s ss ts h.1 k.1)
 
@@ -67,7 +67,7 @@ module _ (ps : List ℕ) where
   apart_sym [] ts h = apart_none ts
   apart_sym (s ∷ ss) ts h = cons_apart s ss ts (apart_one s ts h.0) (apart_sym ss ts h.1)
 
-  all_++ : (P : Step → Type 0) (xs ys : List Step) → All P xs → All P ys → All P (xs ++ ys)
+  all_++ : (P : Step → Type 0) (xs ys : List Step) → AllByRecursion P xs → AllByRecursion P ys → AllByRecursion P (xs ++ ys)
   all_++ P [] ys h k = k
   all_++ P (x ∷ xs) ys h k = (h.0, all_++ P xs ys h.1 k)
 
@@ -75,7 +75,7 @@ module _ (ps : List ℕ) where
   apart_++ [] xs ys h k = tt
   apart_++ (s ∷ ss) xs ys h k = (all_++ (λ t. Apart ps s.0 t.0) xs ys h.0 k.0, apart_++ ss xs ys h.1 k.1)
 
-  pub apart_push : (ss xs : List Step) (x : Step) → ListsApart ps ss xs → All (λ s. Apart ps s.0 x.0) ss → ListsApart ps ss (xs ++ x ∷ [])
+  pub apart_push : (ss xs : List Step) (x : Step) → ListsApart ps ss xs → AllByRecursion (λ s. Apart ps s.0 x.0) ss → ListsApart ps ss (xs ++ x ∷ [])
   apart_push ss xs x h k = apart_++ ss xs (x ∷ []) h (cons_apart x [] ss k (apart_none ss))
 
   -- two lists run alike, each wherever the other does

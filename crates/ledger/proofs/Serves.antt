@@ -1,6 +1,6 @@
 -- Every call keeps what is kept, is answered as the ledger asks, and lets the oldest job go on.
 use Rattle.std.proofs.Common.{◌≡◌, ℕ, zero, suc, ◌<◌, ◌≤◌, Bool, true, false, ◌&&◌, List, [], ◌∷◌, ◌++◌, get_or, Some, None, Option, sym, refl, ap, ◌∙◌, subst, ap₂, inl, inr, arith}
-use Rattle.std.specs.List.{AllByRecursion as All}
+use Rattle.std.specs.List.{AllByRecursion}
 use Rattle.std.proofs.lemmas.Bool.{cases_eq, cases_lt, cases_Bool, both_ways, not-false}
 use Rattle.modes.specs.Systems.{Lawful}
 use Rattle.shelf.specs.Words.{Fit}
@@ -31,7 +31,7 @@ use Rattle.ledger.proofs.Walking.{model_of, walk_kept, path_ends}
 use Rattle.ledger.proofs.Moves.{turn_kept, open_kept, commit_kept, giveup_kept, carry_kept}
 
 -- what no row fits, row by row
-first_none : (p : Refusal → Bool) (rs : List Refusal) → first_of p rs ≡ None → All (λ r. p r ≡ false) rs
+first_none : (p : Refusal → Bool) (rs : List Refusal) → first_of p rs ≡ None → AllByRecursion (λ r. p r ≡ false) rs
 first_none p [] e = tt
 first_none p (r ∷ rs) e =
     elim (cases_Bool (p r)) [
@@ -261,7 +261,7 @@ module _ (y : Layout) (law : Lawful y.system) (f : Falls y.parents) (start : Lis
 
   -- no row of the table fits a call
   abbrev NoRow : Call → Type 0
-  NoRow c = All (λ r. (among (number r) (can_meet c) && fits (facts y l.jobs) c r) ≡ false) rows
+  NoRow c = AllByRecursion (λ r. (among (number r) (can_meet c) && fits (facts y l.jobs) c r) ≡ false) rows
 
   -- a job that another state has been put for is not wounded by it, nor is any other
   spared : (j : ℕ) (st : Status) → is_wounded st ≡ false → (k : ℕ) → is_wounded (l.jobs.status k) ≡ false → is_wounded (put j st l.jobs.status k) ≡ false

@@ -7,7 +7,7 @@ use Rattle.granules.specs.Paths.{path, record_beneath}
 use Rattle.operations.specs.declared.operation.Operation.{Operation}
 use Rattle.operations.specs.Actions.{kind}
 use Rattle.operations.specs.Alone.{Step}
-use Rattle.std.specs.List.{AllByRecursion as All}
+use Rattle.std.specs.List.{AllByRecursion}
 use Rattle.ledger.specs.Walks.{has}
 
 -- Two operations are apart if they commute wherever they meet: on every record beneath both granules.
@@ -20,7 +20,7 @@ Apart parents o p =
 
 -- Two lists of steps are apart if each operation of the one is apart from each of the other: the jobs do not collide.
 abbrev pub ListsApart : List ℕ → List Step → List Step → Type 0
-ListsApart parents ss ts = All (λ s. All (λ t. Apart parents s.0 t.0) ts) ss
+ListsApart parents ss ts = AllByRecursion (λ s. AllByRecursion (λ t. Apart parents s.0 t.0) ts) ss
 
 -- A job that holds the modes m covers kind k along a path: it has the full mode on some granule of it, and the
 -- intent on all granules above that one.
@@ -30,4 +30,4 @@ covered s m k (x ∷ xs) = has s (m x) (s.full k) || (has s (m x) (s.intent k) &
 
 -- It covers what it did.
 abbrev pub Covers : System → List ℕ → (ℕ → ℕ) → List Step → Type 0
-Covers s parents m steps = All (λ t. covered s m (kind t.0.action) (path parents t.0.granule) ≡ true) steps
+Covers s parents m steps = AllByRecursion (λ t. covered s m (kind t.0.action) (path parents t.0.granule) ≡ true) steps

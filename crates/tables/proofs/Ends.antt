@@ -9,7 +9,7 @@ use Rattle.ledger.specs.declared.job.Status.{Status}
 use Rattle.ledger.specs.declared.job.Status.TheVariants.{Working, Ended}
 use Rattle.ledger.specs.Jobs.{put}
 use Rattle.ledger.proofs.Piles.{put_at, put_other}
-use Rattle.tables.specs.declared.core.Core.{Core}
+use Rattle.tables.specs.declared.kernel.Core.{Core}
 use Rattle.tables.specs.declared.held.Held.{Held}
 use Rattle.tables.specs.declared.noted.Noted.{Noted}
 use Rattle.tables.specs.declared.seats.Seats.{Seats}

@@ -7,7 +7,7 @@ use Rattle.std.proofs.lemmas.Bool.{cases_eq, cases_lt, not_from_true, not_from_f
 use Rattle.modes.specs.Systems.{System, Lawful}
 use Rattle.granules.specs.Below.{sum_below, count_below}
 use Rattle.ledger.specs.Promises.{group, holders}
-use Rattle.tables.specs.declared.core.Core.{Core}
+use Rattle.tables.specs.declared.kernel.Core.{Core}
 use Rattle.tables.specs.Grids.{cell}
 use Rattle.tables.specs.Heads.{one, tally, if_held, group_of}
 use Rattle.tables.specs.Seats.{slot}

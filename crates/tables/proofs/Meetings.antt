@@ -10,7 +10,7 @@ use Rattle.ledger.specs.Walks.{judge, must_give_way, must_wait, yields, blocks}
 use Rattle.ledger.specs.Models.{Model, model_hands}
 use Rattle.ledger.proofs.Kept.{yields_young, blocks_old}
 use Rattle.ledger.proofs.Wounds.{where_false}
-use Rattle.tables.specs.declared.core.Core.{Core}
+use Rattle.tables.specs.declared.kernel.Core.{Core}
 use Rattle.tables.specs.Grids.{cell}
 use Rattle.tables.specs.Meetings.{holds_up_at}
 use Rattle.tables.specs.Seats.{slot, next_above}

@@ -8,7 +8,7 @@ use Rattle.ledger.specs.Jobs.{raise}
 use Rattle.ledger.specs.Walks.{has, target, yields, blocks}
 use Rattle.ledger.specs.Models.{Model, model_hands}
 use Rattle.ledger.proofs.Walking.{walk_stops, walk_goes}
-use Rattle.tables.specs.declared.core.walks.Walker.{Walker}
+use Rattle.tables.specs.declared.kernel.walks.Walker.{Walker}
 use Rattle.tables.specs.Steps.{walk_on}
 
 module _ (s : System) (m : Model) (w : Walker) (x mode t : ℕ) (has_mode : mode ≡ m.jobs.mode w.job x)

@@ -19,7 +19,7 @@ use Rattle.ledger.specs.Models.{Model, Served, model_hands, carried, try}
 use Rattle.ledger.proofs.Kept.{judged_self}
 use Rattle.ledger.proofs.Walking.{walk_covered, walk_same, walk_stops, walk_goes}
 use Rattle.ledger.proofs.Wounds.{where_false}
-use Rattle.tables.specs.declared.core.walks.Walker.{Walker}
+use Rattle.tables.specs.declared.kernel.walks.Walker.{Walker}
 use Rattle.tables.specs.declared.held.Held.{Held}
 use Rattle.tables.specs.declared.noted.Noted.{Noted}
 use Rattle.tables.specs.declared.seats.Seats.{Seats}

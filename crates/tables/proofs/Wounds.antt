@@ -9,7 +9,7 @@ use Rattle.ledger.specs.declared.job.Status.TheVariants.{Wounded, Ended}
 use Rattle.ledger.specs.Jobs.{where_so, wound_jobs}
 use Rattle.ledger.specs.Models.{Model, model_hands, taken_back, all_taken_back}
 use Rattle.ledger.proofs.Wounds.{where_true, where_false, where_cong}
-use Rattle.tables.specs.declared.core.Core.{Core}
+use Rattle.tables.specs.declared.kernel.Core.{Core}
 use Rattle.tables.specs.Grids.{cell}
 use Rattle.tables.specs.Seats.{slot}
 use Rattle.tables.specs.Views.{model}

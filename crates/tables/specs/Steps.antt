@@ -3,9 +3,9 @@ use Rattle.std.specs.Prelude.{ℕ, true, false, List}
 use Rattle.modes.specs.Systems.{System}
 use Rattle.ledger.specs.Walks.{Walked, walk}
 use Rattle.ledger.specs.Models.{Model, model_hands}
-use Rattle.tables.specs.declared.core.walks.Step.{Step}
-use Rattle.tables.specs.declared.core.walks.Step.TheVariants.{Covered, On, Stopped}
-use Rattle.tables.specs.declared.core.walks.Walker.{Walker}
+use Rattle.tables.specs.declared.kernel.walks.Step.{Step}
+use Rattle.tables.specs.declared.kernel.walks.Step.TheVariants.{Covered, On, Stopped}
+use Rattle.tables.specs.declared.kernel.walks.Walker.{Walker}
 
 -- the walk of a walker over what is left of its path
 abbrev pub walk_on : System → Walker → List ℕ → Model → Walked Model

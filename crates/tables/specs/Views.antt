@@ -4,7 +4,7 @@ use Rattle.ledger.specs.declared.job.Note.{Note}
 use Rattle.ledger.specs.declared.job.Note.TheVariants.{Nothing}
 use Rattle.ledger.specs.Jobs.{Jobs}
 use Rattle.ledger.specs.Models.{Model}
-use Rattle.tables.specs.declared.core.Core.{Core}
+use Rattle.tables.specs.declared.kernel.Core.{Core}
 use Rattle.tables.specs.declared.held.Held.{Held}
 use Rattle.tables.specs.declared.noted.Noted.{Noted}
 use Rattle.tables.specs.declared.seats.Seats.{Seats}

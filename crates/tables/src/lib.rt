@@ -1,8 +1,8 @@
 // What a laid-out engine keeps, and the calls on it.
 //
-// The way of a call: `core/calls` tries the rows of the table of refusals from the top (with `rows` for those that go by a job's
-// state) and finds the job's slot (`seats`); `core/walks` takes its locks from granule to granule, where whoever is in the way is judged
-// (`core/meets`, `judge`); `core/tries` does the work on the shelf, with its notes (`noted`). `core/takes` takes a job back, `core/ends` lets
+// The way of a call: `kernel/calls` tries the rows of the table of refusals from the top (with `rows` for those that go by a job's
+// state) and finds the job's slot (`seats`); `kernel/walks` takes its locks from granule to granule, where whoever is in the way is judged
+// (`kernel/meets`, `judge`); `kernel/tries` does the work on the shelf, with its notes (`noted`). `kernel/takes` takes a job back, `kernel/ends` lets
 // jobs come and go, `head` tells who holds a granule.
 //
 // What is kept. At most 16 jobs have not ended, so each sits in one of 16 slots:
@@ -13,7 +13,7 @@
 //     held    rows      for each slot, the mode held on each of 256 granules
 //             counts    for each granule, how many slots hold each mode: agrees with the rows
 //     noted   rows      for each slot, its note on each of 256 granules
-//     core    shelf     the words; a free slot holds nothing and notes nothing
+//     kernel  shelf     the words; a free slot holds nothing and notes nothing
 //
 // Each of these sentences is an invariant of the type. Nothing after the construction takes memory.
 //
@@ -21,15 +21,15 @@
 // is), then what the parts are held to.
 #![tactic(auto)]
 
-pub mod core;
 mod head;
 mod held;
 mod judge;
+pub mod kernel;
 mod noted;
 mod rows;
 mod seats;
 mod slot;
 pub mod turn;
 
-pub use self::core::Core;
+pub use kernel::Core;
 pub use turn::Turn;

@@ -1,0 +1,38 @@
+use Rattle.std.proofs.Common.{◌≡◌, ℕ, true, List, get_or, sym, refl, ap, ◌∙◌}
+use Rattle.std.proofs.lemmas.List.{get_or-set_other}
+use Rattle.ledger.specs.declared.job.Note.{Note}
+use Rattle.ledger.specs.declared.job.Note.TheVariants.{Nothing}
+use Rattle.tables.specs.Grids.{cell, is_nothing}
+use Rattle.tables.proofs.Ends.{end_view}
+use Rattle.tables.proofs.Grids.{wiped_stays}
+use Rattle.tables.proofs.kernel.Core.end.Goals as goal
+
+pub invariant_of-self : goal.invariant_of-self
+invariant_of-self g c =
+    let t = c.args.self.now in
+    let s = c.slot_of-slot.result in
+    let vacant : ℕ → Type 0 = λ i. get_or c.leave.new.self.numbers i 0 ≡ 0 in
+    let before : (i : ℕ) → (i ≡ s → ⊥) → vacant i → get_or t.seats.numbers i 0 ≡ 0 =
+    λ i e free.
+    sym (get_or-set_other t.seats.numbers s i 0 0 e)
+    ∙ ap (λ (ns : List ℕ). get_or ns i 0) (sym c.leave.ensures.numbers)
+    ∙ free
+    in
+    record {
+      unlocked = λ i x free.
+          ap (λ (rows : List (List ℕ)). cell 0 rows i x) c.wipe.ensures.rows
+          ∙ wiped_stays 0 t.held.rows s (λ v. v ≡ 0) vacant refl (λ j y e q. t.unlocked j y (before j e q)) i x free;
+      unnoted = λ i x free.
+          ap (λ (rows : List (List Note)). is_nothing (cell Nothing rows i x)) c.wipe-2.ensures.rows
+          ∙ wiped_stays Nothing t.noted.rows s (λ v. is_nothing v ≡ true) vacant refl (λ j y e q. t.unnoted j y (before j e q)) i x free;
+    }
+
+pub returns : goal.returns
+returns g c =
+    let t = c.args.self.now in
+    let here = sym c.slot_of-slot.ensures.value in
+    record {
+      model =
+          end_view (g.S.Shelf.words t.shelf) t.seats c.leave.new.self t.held c.wipe.new.self t.noted c.wipe-2.new.self c.args.job c.requires
+          (rw here c.leave.ensures.numbers) (rw here c.leave.ensures.states) c.leave.ensures.opened (rw here c.wipe.ensures.rows) (rw here c.wipe-2.ensures.rows);
+    }

@@ -1,0 +1,18 @@
+use Rattle.std.proofs.Common.{sum, ap, ◌∙◌}
+use Rattle.tables.proofs.Heads.{group_agrees, holders_agree}
+use Rattle.tables.proofs.kernel.Core.head.Goals as goal
+
+pub returns : goal.returns
+returns g c =
+    let t = c.args.self.now in
+    record {
+      group =
+          c.group.ensures.value
+          ∙ c.of-head.ensures.group
+          ∙ c.row.ensures.group
+          ∙ group_agrees t c.args.granule c.requires g.M.ModeSystem.meaning g.met.M.ModeSystem.lawful;
+      holders =
+          c.holders.ensures.value
+          ∙ ap sum (c.of-head.ensures.counts ∙ c.row.ensures.counts)
+          ∙ holders_agree t c.args.granule c.requires;
+    }

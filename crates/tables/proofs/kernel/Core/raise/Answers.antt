@@ -1,0 +1,28 @@
+use Rattle.std.proofs.Common.{ℕ, List, sym, refl, ap, ◌∙◌}
+use Rattle.tables.specs.Grids.{cell}
+use Rattle.tables.proofs.Grids.{other_cell}
+use Rattle.tables.proofs.Raises.{raise_view}
+use Rattle.tables.proofs.Views.{not_free}
+use Rattle.tables.proofs.kernel.Core.raise.Goals as goal
+
+pub invariant_of-self : goal.invariant_of-self
+invariant_of-self g c =
+    let t = c.args.self.now in
+    record {
+      unlocked = λ i x free.
+          ap (λ (rows : List (List ℕ)). cell 0 rows i x) c.put.ensures.rows
+          ∙ other_cell 0 t.held.rows _ _ i x (λ e. not_free t.seats c.args.job i c.requires.seated free (e ∙ c.slot_of-slot.ensures.value))
+          ∙ t.unlocked i x free;
+      unnoted = t.unnoted;
+    }
+
+pub returns : goal.returns
+returns g c =
+    let t = c.args.self.now in
+    let here = sym c.slot_of-slot.ensures.value in
+    record {
+      model =
+          raise_view (g.S.Shelf.words t.shelf) t.seats t.held c.put.new.self t.noted c.args.job c.args.granule c.args.mode c.requires.seated c.requires.granule
+          (rw here c.put.ensures.rows);
+      numbers = refl;
+    }
