@@ -1,5 +1,5 @@
 -- Which tables are trees, and what is wrong with the others.
-use Rattle.std.specs.Prelude.{ℕ, Bool, true, false, ◌&&◌, ltb, leb, List, length, Some, None, Option, ◌==◌, nat_eq, nat_le, nat_lt}
+use Rattle.std.specs.Prelude.{ℕ, Bool, true, false, ◌&&◌, List, length, Some, None, Option, ◌==◌, nat_le, nat_lt}
 use Rattle.granules.specs.declared.unfit.Unfit.{Unfit}
 use Rattle.granules.specs.declared.unfit.Unfit.TheVariants.{Lengths, Parent, Path}
 use Rattle.granules.specs.Below.{each_below}
@@ -17,7 +17,7 @@ sized parents words = length parents == words && (nat_lt 0 (length parents) && n
 
 -- Whether p may be the parent of g: the root's is the root, any other is smaller than its child.
 abbrev pub right_for : ℕ → ℕ → Bool
-right_for g p = elim (g == 0) [ true ↦ nat_eq p 0 | false ↦ ltb p g ]
+right_for g p = elim (g == 0) [ true ↦ p == 0 | false ↦ nat_lt p g ]
 
 -- It is so of every granule.
 abbrev pub rooted : List ℕ → Bool
@@ -25,7 +25,7 @@ rooted parents = each_below (length parents) (λ g. right_for g (parent parents 
 
 -- No path has more than 8 granules, both ends counted.
 abbrev pub shallow : List ℕ → Bool
-shallow parents = each_below (length parents) (λ g. leb (length (path parents g)) 8)
+shallow parents = each_below (length parents) (λ g. nat_le (length (path parents g)) 8)
 
 -- What is wrong with a table that comes with so many first words, if anything is: the first of the three that applies.
 abbrev pub fault : List ℕ → ℕ → Option Unfit

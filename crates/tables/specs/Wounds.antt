@@ -1,5 +1,5 @@
 -- One job wounded in a model.
-use Rattle.std.specs.Prelude.{ℕ, Bool, true, false, nat_eq}
+use Rattle.std.specs.Prelude.{ℕ, Bool, true, false, ◌==◌}
 use Rattle.ledger.specs.declared.job.Note.TheVariants.{Nothing}
 use Rattle.ledger.specs.Jobs.{where_so, wound_jobs}
 use Rattle.ledger.specs.Models.{Model, taken_back}
@@ -8,9 +8,9 @@ use Rattle.ledger.specs.Models.{Model, taken_back}
 abbrev pub wounded_one : ℕ → Model → Model
 wounded_one k m =
     record {
-      jobs = wound_jobs (λ j. nat_eq j k) m.jobs;
+      jobs = wound_jobs (λ j. j == k) m.jobs;
       words = taken_back (m.notes k) m.words;
-      notes = where_so (λ j. nat_eq j k) (λ _. Nothing) m.notes;
+      notes = where_so (λ j. j == k) (λ _. Nothing) m.notes;
     }
 
 -- the same if it must be

@@ -10,37 +10,37 @@ use operations::Outcome;
 use shelf::Shelf;
 use tables::Turn;
 
-fn done(res: Result<(), Refusal>) -> Answer
-    ensures value { result ≡ as_done res }
+fn done(reply: Result<(), Refusal>) -> Answer
+    ensures value { result ≡ as_done reply }
 {
-    match res {
+    match reply {
         Ok(()) => Answer::Told(Outcome::Done),
         Err(refusal) => Answer::Refused(refusal),
     }
 }
 
-fn numbered(res: Result<u32, Refusal>) -> Answer
-    ensures value { result ≡ as_job res }
+fn numbered(reply: Result<u32, Refusal>) -> Answer
+    ensures value { result ≡ as_job reply }
 {
-    match res {
+    match reply {
         Ok(number) => Answer::Job(number),
         Err(refusal) => Answer::Refused(refusal),
     }
 }
 
-fn headed(res: Result<(u8, u32), Refusal>) -> Answer
-    ensures value { result ≡ as_head res }
+fn headed(reply: Result<(u8, u32), Refusal>) -> Answer
+    ensures value { result ≡ as_head reply }
 {
-    match res {
+    match reply {
         Ok((group, holders)) => Answer::Head(group, holders),
         Err(refusal) => Answer::Refused(refusal),
     }
 }
 
-fn told(res: Result<Turn<Outcome>, Refusal>) -> Answer
-    ensures value { result ≡ as_outcome res }
+fn told(reply: Result<Turn<Outcome>, Refusal>) -> Answer
+    ensures value { result ≡ as_outcome reply }
 {
-    match res {
+    match reply {
         Ok(Turn::Through(outcome)) => Answer::Told(outcome),
         Ok(Turn::Stopped) => Answer::Waits,
         Err(refusal) => Answer::Refused(refusal),
