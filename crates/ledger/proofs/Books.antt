@@ -16,7 +16,7 @@ use Rattle.operations.specs.declared.operation.Operation.{Operation}
 use Rattle.operations.specs.Actions.{kind, changed}
 use Rattle.operations.specs.Words.{answer, after, left_at}
 use Rattle.operations.specs.Alone.{Step, Alone}
-use Rattle.operations.proofs.Places.{length_each, getD_each}
+use Rattle.operations.proofs.Places.{length_each, get_or_each}
 use Rattle.operations.proofs.Steps.{alone_push}
 use Rattle.ledger.specs.Collisions.{Apart, ListsApart}
 use Rattle.ledger.specs.Jobs.{put}
@@ -226,7 +226,7 @@ module _ (ps start : List ℕ) (fits : Fit start) where
         let e : taken_back (notes k) ws ≡ mid =
         ext_get_or 0 (taken_back (notes k) ws) mid (long ∙ same)
         (λ r h.
-        getD_each back_at ws r (omega arith)
+        get_or_each back_at ws r (omega arith)
         ∙ back_right done live n k r (notes k r) mid (get_or ws r 0) (good.right k r (omega arith)) p.1
         (run_fits ps (done ++ pile (put k [] live) n) start mid fits p.1 r)
         (run_at ps (live k) mid ws p.2 r (omega arith)))

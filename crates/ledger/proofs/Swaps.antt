@@ -13,7 +13,7 @@ use Rattle.operations.specs.declared.operation.Operation.{Operation}
 use Rattle.operations.specs.Actions.{kind, changed}
 use Rattle.operations.specs.Words.{sum, told, answer, each_from, left_at, after}
 use Rattle.operations.specs.Alone.{Step, Alone}
-use Rattle.operations.proofs.Places.{each_same, length_each, getD_each}
+use Rattle.operations.proofs.Places.{each_same, length_each, get_or_each}
 use Rattle.ledger.specs.Collisions.{Apart}
 
 pub commutes_comm : (k l : Kind) → commutes k l ≡ commutes l k
@@ -80,7 +80,7 @@ module _ (ps : List ℕ) where
   -- what stands at a place after an operation
   pub word_after : (o : Operation) (ws : List ℕ) (r : ℕ) → r < length ws → get_or (after ps o ws) r 0 ≡ left_at ps o r (get_or ws r 0)
   unfolding after
-  word_after o ws r h = getD_each (left_at ps o) ws r h
+  word_after o ws r h = get_or_each (left_at ps o) ws r h
 
   pub after_comm : (o p : Operation) → Apart ps o p → (ws : List ℕ) → after ps o (after ps p ws) ≡ after ps p (after ps o ws)
   unfolding after

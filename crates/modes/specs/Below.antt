@@ -1,4 +1,5 @@
 -- A test that passes at each number below n, computed, and what it says at one of them.
+-- Lemmas: they stand here, and not in proofs/, since an impl may show its laws only by what stands in specs/.
 use Rattle.std.specs.Prelude.{◌≡◌, ℕ, zero, suc, ◌<◌, Bool, true, ◌&&◌}
 use Rattle.std.proofs.Common.{subst, sym, inl, inr, arith}
 use Rattle.std.proofs.lemmas.Bool.{cases_eq, and_parts}

@@ -1,4 +1,5 @@
 -- The laws of a system out of rights, from one computed test over all of its codes.
+-- Lemmas: they stand here, and not in proofs/, since an impl may show its laws only by what stands in specs/.
 use Rattle.std.specs.Prelude.{◌≡◌, ℕ, ◌<◌, ◌≤◌, Bool, true, false, not, ◌&&◌, ◌||◌, length, ◌==◌, nat_le, nat_lt, slice_index_or, refl}
 use Rattle.std.proofs.Common.{sym, ◌∙◌, ap₂, arith}
 use Rattle.std.proofs.lemmas.Bool.{and_parts, eqb-true, ltb-true, leb-true, both_ways}

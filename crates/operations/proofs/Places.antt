@@ -40,8 +40,8 @@ each_at i f (w ∷ ws) (suc k) h =
     each_at (suc i) f ws k (omega arith) ∙ ap (λ (x : ℕ). f x (get_or ws k 0)) (suc-add i k ∙ sym (add-suc i k))
 
 -- what stands at a place after a change of each
-pub getD_each : (f : ℕ → ℕ → ℕ) (ws : List ℕ) (k : ℕ) → k < length ws → get_or (each_from 0 f ws) k 0 ≡ f k (get_or ws k 0)
-getD_each f ws k h = each_at 0 f ws k h ∙ ap (λ (x : ℕ). f x (get_or ws k 0)) (zero-add k)
+pub get_or_each : (f : ℕ → ℕ → ℕ) (ws : List ℕ) (k : ℕ) → k < length ws → get_or (each_from 0 f ws) k 0 ≡ f k (get_or ws k 0)
+get_or_each f ws k h = each_at 0 f ws k h ∙ ap (λ (x : ℕ). f x (get_or ws k 0)) (zero-add k)
 
 pub each_same :
     (i : ℕ) (f h : ℕ → ℕ → ℕ) (ws : List ℕ) → ((k w : ℕ) → f k w ≡ h k w) → each_from i f ws ≡ each_from i h ws

@@ -3,7 +3,7 @@ use Rattle.std.proofs.Common.{◌≡◌, ℕ, ◌+◌, ◌<◌, ◌≤◌, cond,
 use Rattle.std.proofs.lemmas.List.{ext_get_or, length-set, get_or-set_same, get_or-set_other}
 use Rattle.std.proofs.lemmas.Bool.{cases_eq, cases_lt, cond-true, cond-false, lt-ltb, le-ltb}
 use Rattle.operations.specs.Words.{each_from}
-use Rattle.operations.proofs.Places.{each_same, each_still, length_each, getD_each}
+use Rattle.operations.proofs.Places.{each_same, each_still, length_each, get_or_each}
 
 -- what is left at place k when the change has come as far as place r
 abbrev pub swept : ℕ → (ℕ → ℕ → ℕ) → ℕ → ℕ → ℕ
@@ -66,17 +66,17 @@ sweep_more r f ws =
     elim (cases_eq k r) [
       | inl s ↦
           let old : get_or now r 0 ≡ get_or ws r 0 =
-          getD_each (swept r f) ws r (omega arith) ∙ swept_past r f r (get_or ws r 0) (omega arith)
+          get_or_each (swept r f) ws r (omega arith) ∙ swept_past r f r (get_or ws r 0) (omega arith)
           in
           ap (λ (x : ℕ). get_or (set now r new) x 0) s
           ∙ get_or-set_same now r new 0 (omega arith)
           ∙ ap (f r) old
           ∙ sym (swept_done (r + 1) f r (get_or ws r 0) (omega arith))
-          ∙ sym (getD_each (swept (r + 1) f) ws r (omega arith))
+          ∙ sym (get_or_each (swept (r + 1) f) ws r (omega arith))
           ∙ ap (λ (x : ℕ). get_or next x 0) (sym s)
       | inr s ↦
           get_or-set_other now r k new 0 s
-          ∙ getD_each (swept r f) ws k l
+          ∙ get_or_each (swept r f) ws k l
           ∙ swept_else r f k (get_or ws k 0) s
-          ∙ sym (getD_each (swept (r + 1) f) ws k l)
+          ∙ sym (get_or_each (swept (r + 1) f) ws k l)
     ])

@@ -1,4 +1,5 @@
 -- The words of a new shelf and of a packed one, place by place.
+-- Lemmas: they stand here, and not in proofs/, since an impl may show its laws only by what stands in specs/.
 use Rattle.std.specs.Prelude.{◌≡◌, ℕ, zero, suc, ◌+◌, ◌*◌, ◌/◌, ◌%◌, ◌<◌, ◌≤◌, List, [], ◌∷◌, length, set, replicate, Some, None, slice_index, slice_index_or, slice_set, vec_len, Vec, refl}
 use Rattle.std.proofs.Common.{sym, ◌∙◌, ap, inl, inr, arith}
 use Rattle.std.proofs.Math.Nat.{div-div-eq-div-mul}

@@ -1,4 +1,5 @@
 -- The words of two shelves end to end, by the side that a place lies on.
+-- Lemmas: they stand here, and not in proofs/, since an impl may show its laws only by what stands in specs/.
 use Rattle.std.specs.Prelude.{◌≡◌, ℕ, ◌+◌, ◌-◌, ◌<◌, ◌≤◌, min, cond, ltb, List, ◌++◌, length, take, Some, None, nat_lt, slice_index, refl}
 use Rattle.std.proofs.Common.{sym, ◌∙◌, ap, ap₂, inl, inr, arith, length-take, length-append}
 use Rattle.std.proofs.Math.Seq.{take-set-lt}
