@@ -3,6 +3,8 @@
 words in snake case (`next-above` becomes `next_above`), facts and records in camel case (`Promise-kept` becomes
 `PromiseKept`). Names of functions of src/, of goals and of the library keep their spelling.
 
+Run after the kit's port.py, on what that made of the older files.
+
 usage, once, at the top of the repository:  python3 tools/respell.py          rewrites the files
                                             python3 tools/respell.py names    only prints what becomes what
 """

@@ -1,7 +1,7 @@
 // The lines of a text, and the entries of a line.
 ghost use Rattle.std.specs.Prelude.{◌≡◌, not, length, is_some, ◌==◌};
 ghost use Rattle.std.specs.Option.{option_map};
-ghost use Rattle.entries.specs.Cuts.{Remains, line, lines_after, entry, entries_after};
+ghost use Rattle.entries.specs.Cuts.{line, lines_after, entry, entries_after};
 
 use crate::cut::cut_at;
 

@@ -19,9 +19,9 @@ pub trait Shelf {
         ensures after { words self.new ≡ slice_set (words self.old) place word }
         ensures test { result ≡ nat_lt place (length (words self.old)) };
 
-    // There are at most 65,536.
+    // There are at most 65,536 places.
     ghost few: { (s : Self) → length (words s) ≤ 65536 };
 
-    // Each has 32 bits.
+    // Each word has 32 bits.
     ghost fit: { (s : Self) → Fit (words s) };
 }

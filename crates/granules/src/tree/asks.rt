@@ -1,5 +1,5 @@
 // Questions to a tree. A granule that the tree does not have counts as a child of the root, and is no record.
-ghost use Rattle.std.specs.Prelude.{◌≡◌, ℕ, ◌+◌, ◌<◌, ◌≤◌, true, ltb, [], ◌∷◌, ◌++◌, length, if◌then◌else◌, nat_lt, slice_index};
+ghost use Rattle.std.specs.Prelude.{◌≡◌, ℕ, ◌+◌, ◌<◌, ◌≤◌, true, [], ◌∷◌, ◌++◌, length, if◌then◌else◌, nat_lt, slice_index};
 ghost use Rattle.granules.specs.Paths.{parent, path, beneath, settled, is_record, record_beneath, records_beneath};
 ghost use Rattle.granules.specs.Trees.{table, steps, span};
 
@@ -95,7 +95,7 @@ impl Tree {
 
     // The granules from the root down to one; for a number beyond 255, which is no granule's, the root alone.
     pub fn path(&self, granule: usize) -> Path
-        ensures value { steps result ≡ (if ltb granule 256 then path (table self.now) granule else 0 ∷ []) }
+        ensures value { steps result ≡ (if nat_lt granule 256 then path (table self.now) granule else 0 ∷ []) }
     {
         if granule == 0 || granule > 255 {
             return Path::root();

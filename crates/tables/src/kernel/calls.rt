@@ -2,7 +2,7 @@
 ghost use Rattle.std.specs.Prelude.{◌≡◌};
 ghost use Rattle.ledger.specs.declared.call.Call.TheVariants.{Open, Carry, Go, Again, Commit, GiveUp, Look};
 ghost use Rattle.ledger.specs.Ledgers.{Layout};
-ghost use Rattle.ledger.specs.Models.{serve, Served};
+ghost use Rattle.ledger.specs.Models.{serve};
 ghost use Rattle.tables.specs.Replies.{as_done, as_job, as_head, as_outcome};
 ghost use Rattle.tables.specs.Turns.{layout};
 ghost use Rattle.tables.specs.Views.{model};

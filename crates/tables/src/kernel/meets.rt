@@ -2,7 +2,7 @@
 ghost use Rattle.std.specs.Prelude.{◌≡◌, ◌<◌};
 ghost use Rattle.granules.specs.Below.{some_below};
 ghost use Rattle.ledger.specs.Models.{model_hands};
-ghost use Rattle.ledger.specs.Walks.{blocks, yields, Hands};
+ghost use Rattle.ledger.specs.Walks.{blocks, yields};
 ghost use Rattle.tables.specs.Meetings.{holds_up_at};
 ghost use Rattle.tables.specs.Seats.{slot};
 ghost use Rattle.tables.specs.Views.{model, jobs_of};

@@ -1,5 +1,5 @@
 // A job's work taken back.
-ghost use Rattle.std.specs.Prelude.{◌≡◌, ℕ, ◌<◌, replicate, slice_index, slice_index_or, slice_set};
+ghost use Rattle.std.specs.Prelude.{◌≡◌, ◌<◌, replicate, slice_index, slice_index_or, slice_set};
 ghost use Rattle.ledger.specs.declared.job.Note.TheVariants.{Nothing};
 ghost use Rattle.ledger.specs.declared.job.Status.TheVariants.{Ended};
 ghost use Rattle.tables.specs.declared.slot.Event.TheVariants.{Wound};

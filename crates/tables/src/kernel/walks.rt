@@ -3,10 +3,9 @@ ghost use Rattle.std.specs.Prelude.{◌≡◌, ℕ, ◌<◌, List, ◌∷◌};
 ghost use Rattle.granules.specs.Trees.{steps};
 ghost use Rattle.ledger.specs.Jobs.{raise};
 ghost use Rattle.ledger.specs.Models.{model_hands};
-ghost use Rattle.ledger.specs.Walks.{Hands};
 ghost use Rattle.tables.specs.Seats.{slot};
 ghost use Rattle.tables.specs.Views.{model, jobs_of};
-ghost use Rattle.ledger.specs.Walks.{Walked, target};
+ghost use Rattle.ledger.specs.Walks.{target};
 ghost use Rattle.tables.specs.Steps.{walk_on, after_step};
 
 use super::Core;

@@ -1,5 +1,5 @@
 // Questions to the seats.
-ghost use Rattle.std.specs.Prelude.{◌≡◌, ℕ, ◌<◌, ◌≤◌, slice_index};
+ghost use Rattle.std.specs.Prelude.{◌≡◌, ◌<◌, ◌≤◌, slice_index};
 ghost use Rattle.tables.specs.Seats.{nearer, next_above, place, slot, status_of};
 
 use super::Seats;
