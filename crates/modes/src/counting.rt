@@ -68,13 +68,13 @@ pub struct Counting;
 impl ModeSystem for Counting {
     const COUNT: u8 = 9;
 
+    ghost COUNT = { 9 };
+
     ghost meaning = { system counting };
 
-    ghost lawful = { Laws.lawful counting refl };
+    ghost counted = { refl };
 
-    fn modes(&self) -> u8 {
-        Self::COUNT
-    }
+    ghost lawful = { Laws.lawful counting refl };
 
     fn join(&self, a: u8, b: u8) -> u8 {
         joins(a)[b.min(X) as usize]

@@ -56,13 +56,13 @@ pub struct Gray;
 impl ModeSystem for Gray {
     const COUNT: u8 = 6;
 
+    ghost COUNT = { 6 };
+
     ghost meaning = { system gray };
 
-    ghost lawful = { Laws.lawful gray refl };
+    ghost counted = { refl };
 
-    fn modes(&self) -> u8 {
-        Self::COUNT
-    }
+    ghost lawful = { Laws.lawful gray refl };
 
     fn join(&self, a: u8, b: u8) -> u8 {
         joins(a)[b.min(X) as usize]

@@ -1,5 +1,5 @@
 // The interface of a mode system.
-ghost use Rattle.std.specs.Prelude.{◌≡◌};
+ghost use Rattle.std.specs.Prelude.{◌≡◌, ℕ};
 ghost use Rattle.modes.specs.Systems.{System, Lawful};
 
 use crate::kind::Kind;
@@ -10,12 +10,10 @@ pub trait ModeSystem {
     // How many modes there are, at most 16.
     const COUNT: u8;
 
+    ghost COUNT: { ℕ };
+
     // What the system answers, as one record of functions.
     ghost meaning: { System };
-
-    // `COUNT`, for code that is generic over the system.
-    fn modes(&self) -> u8
-        ensures value { result ≡ meaning.count };
 
     // The mode of a job that holds both.
     fn join(&self, a: u8, b: u8) -> u8
@@ -33,6 +31,16 @@ pub trait ModeSystem {
     fn intent(&self, kind: Kind) -> u8
         ensures value { result ≡ meaning.intent kind };
 
+    // The constant says how many modes are meant.
+    ghost counted: { COUNT ≡ meaning.count };
+
     // The laws that the engine rests on.
     ghost lawful: { Lawful meaning };
+
+    // `COUNT`, of a system at hand.
+    final fn modes(&self) -> u8
+        ensures value { result ≡ meaning.count }
+    {
+        Self::COUNT
+    }
 }
