@@ -14,9 +14,6 @@ impl Kind {
     pub fn commutes(self, other: Kind) -> bool
         ensures { result ≡ commutes self other }
     {
-        match (self, other) {
-            (Kind::Read, Kind::Read) | (Kind::Add, Kind::Add) => true,
-            _ => false,
-        }
+        self == other && self != Kind::Set
     }
 }
