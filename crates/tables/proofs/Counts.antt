@@ -11,9 +11,10 @@ use Rattle.ledger.specs.Ledgers.{unended}
 use Rattle.tables.specs.declared.held.Held.{Held}
 use Rattle.tables.specs.declared.seats.Seats.{Seats}
 use Rattle.tables.specs.Seats.{place, slot, distinct, all_given}
-use Rattle.tables.specs.Views.{jobs_of}
+use Rattle.tables.specs.Views.{jobs_of, numbers_of, states_of}
 use Rattle.tables.proofs.Places.{place_here, place_later, place_at, among_at, among_place}
 use Rattle.tables.proofs.Views.{slot_none, slot_some, slot_among}
+use Rattle.tables.proofs.Sitting.{numbers_full, free_at}
 
 -- the first counted apart
 pub count_front : (m : ℕ) (q : ℕ → Bool) → count_below (suc m) q ≡ cond (q 0) 1 0 + count_below m (λ i. q (suc i))
@@ -115,35 +116,35 @@ seat_count (x ∷ xs) n q apart given h =
 -- There is a free slot just if fewer than 16 jobs have not ended.
 module _ (seats : Seats) (held : Held) where
   abbrev lives : ℕ → Bool
-  lives i = not (is_ended (get_or seats.states i Ended))
+  lives i = not (is_ended (get_or (states_of seats) i Ended))
 
   seated : unended (jobs_of seats held) ≡ count_below 16 lives
   seated =
-      seat_count seats.numbers seats.opened lives seats.apart seats.known
-      (λ i e. not_from_true (is_ended (get_or seats.states i Ended)) (sym (seats.free i) ∙ eq-eqb (get_or seats.numbers i 0) 0 e))
-      ∙ ap (λ (n : ℕ). count_below n lives) seats.full.0
+      seat_count (numbers_of seats) seats.opened lives seats.apart seats.known
+      (λ i e. not_from_true (is_ended (get_or (states_of seats) i Ended)) (sym (free_at seats i) ∙ eq-eqb (get_or (numbers_of seats) i 0) 0 e))
+      ∙ ap (λ (n : ℕ). count_below n lives) (numbers_full seats)
 
   -- where somebody sits, nobody has ended
-  taken : (i : ℕ) → (get_or seats.numbers i 0 ≡ 0 → ⊥) → lives i ≡ true
+  taken : (i : ℕ) → (get_or (numbers_of seats) i 0 ≡ 0 → ⊥) → lives i ≡ true
   taken i d =
-      not_from_false (is_ended (get_or seats.states i Ended)) (sym (seats.free i) ∙ ne_eqb (get_or seats.numbers i 0) 0 d)
+      not_from_false (is_ended (get_or (states_of seats) i Ended)) (sym (free_at seats i) ∙ ne_eqb (get_or (numbers_of seats) i 0) 0 d)
 
-  pub all_taken : place seats.numbers 0 ≡ 16 → leb 16 (unended (jobs_of seats held)) ≡ true
+  pub all_taken : place (numbers_of seats) 0 ≡ 16 → leb 16 (unended (jobs_of seats held)) ≡ true
   all_taken e =
       le-leb 16 (unended (jobs_of seats held))
       (omega (arith, seated, count_all 16 lives (λ k l. taken k (λ z. nobody k l z))))
     where
-      nobody : (k : ℕ) → k < 16 → get_or seats.numbers k 0 ≡ 0 → ⊥
+      nobody : (k : ℕ) → k < 16 → get_or (numbers_of seats) k 0 ≡ 0 → ⊥
       nobody k l z =
-          let numbers = seats.numbers in
-          let here = subst (λ (v : ℕ). among v numbers ≡ true) z (among_at numbers k (omega (arith, seats.full.0))) in
-          omega (arith, among_place numbers 0 here, e, seats.full.0)
+          let numbers = (numbers_of seats) in
+          let here = subst (λ (v : ℕ). among v numbers ≡ true) z (among_at numbers k (omega (arith, (numbers_full seats)))) in
+          omega (arith, among_place numbers 0 here, e, (numbers_full seats))
 
-  pub one_free : place seats.numbers 0 < 16 → leb 16 (unended (jobs_of seats held)) ≡ false
+  pub one_free : place (numbers_of seats) 0 < 16 → leb 16 (unended (jobs_of seats held)) ≡ false
   one_free l =
-      let i = place seats.numbers 0 in
-      let zero_there = place_at seats.numbers 0 (omega (arith, l, seats.full.0)) in
+      let i = place (numbers_of seats) 0 in
+      let zero_there = place_at (numbers_of seats) 0 (omega (arith, l, (numbers_full seats))) in
       let gone : lives i ≡ false =
-      not_from_true (is_ended (get_or seats.states i Ended)) (sym (seats.free i) ∙ eq-eqb (get_or seats.numbers i 0) 0 zero_there)
+      not_from_true (is_ended (get_or (states_of seats) i Ended)) (sym (free_at seats i) ∙ eq-eqb (get_or (numbers_of seats) i 0) 0 zero_there)
       in
       lt-leb 16 (unended (jobs_of seats held)) (omega (arith, seated, count_lacks 16 lives i l gone))

@@ -11,15 +11,16 @@ use Rattle.ledger.specs.Jobs.{put}
 use Rattle.ledger.proofs.Piles.{put_at, put_other}
 use Rattle.tables.specs.declared.kernel.Core.{Core}
 use Rattle.tables.specs.declared.held.Held.{Held}
-use Rattle.tables.specs.declared.noted.Noted.{Noted}
+use Rattle.tables.specs.declared.grid.Grid.{Grid}
 use Rattle.tables.specs.declared.seats.Seats.{Seats}
 use Rattle.tables.specs.Ends.{with_one_more, without_job}
 use Rattle.tables.specs.Grids.{cell, is_nothing}
 use Rattle.tables.specs.Seats.{slot, distinct}
-use Rattle.tables.specs.Views.{whole}
+use Rattle.tables.specs.Views.{whole, numbers_of, states_of}
 use Rattle.tables.proofs.Places.{place_set_other, place_set_new, among_gone, new_among, place_among}
 use Rattle.tables.proofs.Views.{slot_none, slot_some, slot_number, slot_own}
 use Rattle.tables.proofs.Wounds.{model_eq}
+use Rattle.tables.proofs.Sitting.{numbers_full, states_full}
 
 -- the slot of a job that is not touched by a write
 slot_set_other :
@@ -94,22 +95,22 @@ module _ (numbers : List ℕ) (k : ℕ) (apart : distinct numbers ≡ true) (l :
       ]
 
 pub end_view :
-    (ws : List ℕ) (seats seats' : Seats) (held held' : Held) (noted noted' : Noted) (k : ℕ) → slot seats.numbers k < 16
-    → seats'.numbers ≡ set seats.numbers (slot seats.numbers k) 0 → seats'.states ≡ set seats.states (slot seats.numbers k) Ended
-    → seats'.opened ≡ seats.opened → held'.rows ≡ set held.rows (slot seats.numbers k) (replicate 256 0)
-    → noted'.rows ≡ set noted.rows (slot seats.numbers k) (replicate 256 Nothing)
+    (ws : List ℕ) (seats seats' : Seats) (held held' : Held) (noted noted' : (Grid Note)) (k : ℕ) → slot (numbers_of seats) k < 16
+    → (numbers_of seats') ≡ set (numbers_of seats) (slot (numbers_of seats) k) 0 → (states_of seats') ≡ set (states_of seats) (slot (numbers_of seats) k) Ended
+    → seats'.opened ≡ seats.opened → held'.modes.rows ≡ set held.modes.rows (slot (numbers_of seats) k) (replicate 256 0)
+    → noted'.rows ≡ set noted.rows (slot (numbers_of seats) k) (replicate 256 Nothing)
     → whole ws seats' held' noted' ≡ without_job k (whole ws seats held noted)
 end_view ws seats seats' held held' noted noted' k l n s o h t =
-    let numbers = seats.numbers in
-    let full = seats.full.0 in
+    let numbers = (numbers_of seats) in
+    let full = (numbers_full seats) in
     let within : slot numbers k < length numbers = omega (arith, full) in
     model_eq (whole ws seats' held' noted') (without_job k (whole ws seats held noted)) o
     (λ j.
     ap₂ (λ (ns : List ℕ) (ss : List Status). get_or ss (slot ns j) Ended) n s
-    ∙ view_left numbers k seats.apart within seats.states Ended Ended (seats.full.1 ∙ sym full) j)
+    ∙ view_left numbers k seats.apart within (states_of seats) Ended Ended ((states_full seats) ∙ sym full) j)
     (λ j x.
     ap₂ (λ (ns : List ℕ) (rows : List (List ℕ)). cell 0 rows (slot ns j) x) n h
-    ∙ view_left_row numbers k seats.apart within held.rows 0 (replicate 256 0) (held.full ∙ sym full) j x)
+    ∙ view_left_row numbers k seats.apart within held.modes.rows 0 (replicate 256 0) (held.modes.full ∙ sym full) j x)
     refl
     (λ j r.
     ap₂ (λ (ns : List ℕ) (rows : List (List Note)). cell Nothing rows (slot ns j) r) n t
@@ -164,13 +165,13 @@ module _ (numbers : List ℕ) (i n : ℕ) (l : i < length numbers) (vacant : get
       ]
 
 pub open_view :
-    {S : Type 0} (words : S → List ℕ) (c : Core S) (seats' : Seats) (i : ℕ) → i < 16 → get_or c.seats.numbers i 0 ≡ 0
-    → seats'.numbers ≡ set c.seats.numbers i (c.seats.opened + 1) → seats'.states ≡ set c.seats.states i Working
+    {M S : Type 0} (words : S → List ℕ) (c : Core M S) (seats' : Seats) (i : ℕ) → i < 16 → get_or (numbers_of c.seats) i 0 ≡ 0
+    → (numbers_of seats') ≡ set (numbers_of c.seats) i (c.seats.opened + 1) → (states_of seats') ≡ set (states_of c.seats) i Working
     → seats'.opened ≡ c.seats.opened + 1
     → whole (words c.shelf) seats' c.held c.noted ≡ with_one_more (whole (words c.shelf) c.seats c.held c.noted)
 open_view words c seats' i l vacant n s o =
-    let numbers = c.seats.numbers in
-    let full = c.seats.full.0 in
+    let numbers = (numbers_of c.seats) in
+    let full = (numbers_full c.seats) in
     let next = c.seats.opened + 1 in
     let is : next ≡ suc c.seats.opened = add-one c.seats.opened in
     let within : i < length numbers = omega (arith, full) in
@@ -179,11 +180,11 @@ open_view words c seats' i l vacant n s o =
     model_eq (whole (words c.shelf) seats' c.held c.noted) (with_one_more (whole (words c.shelf) c.seats c.held c.noted)) (o ∙ is)
     (λ j.
     ap₂ (λ (ns : List ℕ) (ss : List Status). get_or ss (slot ns j) Ended) n s
-    ∙ view_sat numbers i next within vacant some new c.seats.states (c.seats.full.1 ∙ sym full) Working j
-    ∙ ap (λ (k : ℕ). put k Working (λ k. get_or c.seats.states (slot numbers k) Ended) j) is)
+    ∙ view_sat numbers i next within vacant some new (states_of c.seats) ((states_full c.seats) ∙ sym full) Working j
+    ∙ ap (λ (k : ℕ). put k Working (λ k. get_or (states_of c.seats) (slot numbers k) Ended) j) is)
     (λ j x.
-    ap (λ (ns : List ℕ). cell 0 c.held.rows (slot ns j) x) n
-    ∙ view_still numbers i next within vacant some new c.held.rows 0 (c.held.full ∙ sym full) (λ y. c.unlocked i y vacant) j x)
+    ap (λ (ns : List ℕ). cell 0 c.held.modes.rows (slot ns j) x) n
+    ∙ view_still numbers i next within vacant some new c.held.modes.rows 0 (c.held.modes.full ∙ sym full) (λ y. c.unlocked i y vacant) j x)
     refl
     (λ j r.
     ap (λ (ns : List ℕ). cell Nothing c.noted.rows (slot ns j) r) n

@@ -11,13 +11,14 @@ use Rattle.tables.specs.declared.kernel.Core.{Core}
 use Rattle.tables.specs.Grids.{cell}
 use Rattle.tables.specs.Heads.{one, tally, if_held, group_of}
 use Rattle.tables.specs.Seats.{slot}
-use Rattle.tables.specs.Views.{jobs_of}
+use Rattle.tables.specs.Views.{jobs_of, numbers_of}
 use Rattle.tables.proofs.Counts.{count_front, seat_count}
 use Rattle.tables.proofs.Grids.{long_at}
 use Rattle.tables.proofs.Groups.{Found, group_is, same_join, stands_below}
 use Rattle.tables.proofs.Places.{among_at}
 use Rattle.tables.proofs.Tallies.{one_same, one_other, one_none, tally_some, held_small, held_counted}
 use Rattle.tables.proofs.Views.{slot_own_number, seated_given}
+use Rattle.tables.proofs.Sitting.{numbers_full}
 
 -- the sum of f below n
 abbrev all_below : ℕ → (ℕ → ℕ) → ℕ
@@ -82,9 +83,9 @@ tally_all (row ∷ rows) n x h =
       count_front (length rows) (λ i. not (eqb (cell 0 (row ∷ rows) i x) 0)),
     )
 
-module _ {S : Type 0} (c : Core S) (x : ℕ) (inside : x < 256) where
+module _ {M S : Type 0} (c : Core M S) (x : ℕ) (inside : x < 256) where
   abbrev rows : List (List ℕ)
-  rows = c.held.rows
+  rows = c.held.modes.rows
 
   abbrev counts : List ℕ
   counts = get_or c.held.counts x []
@@ -101,9 +102,9 @@ module _ {S : Type 0} (c : Core S) (x : ℕ) (inside : x < 256) where
       ∙ ap (λ (n : ℕ). all_below n (λ m. get_or counts m 0)) wide
       ∙ all_ext 16 (λ m. get_or counts m 0) (tally rows x) (c.held.agree x)
       ∙ tally_all rows 16 x small
-      ∙ ap (λ (n : ℕ). count_below n q) (c.held.full ∙ sym c.seats.full.0)
+      ∙ ap (λ (n : ℕ). count_below n q) (c.held.modes.full ∙ sym (numbers_full c.seats))
       ∙ sym
-      (seat_count c.seats.numbers c.seats.opened q c.seats.apart c.seats.known
+      (seat_count (numbers_of c.seats) c.seats.opened q c.seats.apart c.seats.known
       (λ i e. not_from_true (eqb (cell 0 rows i x) 0) (eq-eqb (cell 0 rows i x) 0 (c.unlocked i x e))))
 
   abbrev mode_of : ℕ → ℕ
@@ -112,7 +113,7 @@ module _ {S : Type 0} (c : Core S) (x : ℕ) (inside : x < 256) where
   -- whoever holds a mode is counted there
   counted_job : (k : ℕ) → Found 16 (if_held counts) (mode_of k)
   counted_job k =
-      let i = slot c.seats.numbers k in
+      let i = slot (numbers_of c.seats) k in
       let h = mode_of k in
       elim (cases_eq h 0) [
         | inl e ↦ inl e
@@ -132,13 +133,13 @@ module _ {S : Type 0} (c : Core S) (x : ℕ) (inside : x < 256) where
       elim (cases_eq (get_or counts m 0) 0) [
         | inl e ↦ inl (cond-true (eqb (get_or counts m 0) 0) 0 m (eq-eqb (get_or counts m 0) 0 e))
         | inr d ↦
-            let numbers = c.seats.numbers in
+            let numbers = (numbers_of c.seats) in
             let r = tally_some rows x m (omega (arith, d, c.held.agree x m)) in
             let i = r.0 in
             let h = cell 0 rows i x in
             let some : m ≡ 0 → ⊥ = λ z. omega (arith, r.2, ap (one h) z) in
             let is : h ≡ m = elim (cases_eq h m) [ inl e ↦ e | inr e ↦ absurd (omega (arith, r.2, one_other h m e)) ] in
-            let l : i < length numbers = omega (arith, r.1, c.held.full, c.seats.full.0) in
+            let l : i < length numbers = omega (arith, r.1, c.held.modes.full, (numbers_full c.seats)) in
             let taken : get_or numbers i 0 ≡ 0 → ⊥ = λ z. some (sym is ∙ c.unlocked i x z) in
             let k = get_or numbers i 0 in
             inr (

@@ -6,11 +6,11 @@ use Rattle.ledger.specs.declared.job.Status.{Status}
 use Rattle.ledger.specs.declared.job.Status.TheVariants.{Ended}
 use Rattle.ledger.specs.Models.{fresh}
 use Rattle.tables.specs.declared.held.Held.{Held}
-use Rattle.tables.specs.declared.noted.Noted.{Noted}
+use Rattle.tables.specs.declared.grid.Grid.{Grid}
 use Rattle.tables.specs.declared.seats.Seats.{Seats}
 use Rattle.tables.specs.Grids.{cell}
 use Rattle.tables.specs.Seats.{slot}
-use Rattle.tables.specs.Views.{whole, over}
+use Rattle.tables.specs.Views.{whole, over, numbers_of, states_of}
 use Rattle.tables.proofs.Grids.{empty, empty_cell}
 use Rattle.tables.proofs.Wounds.{model_eq}
 
@@ -22,14 +22,14 @@ pub nothing_noted : (rows : List (List Note)) → rows ≡ replicate 16 (replica
 nothing_noted rows e i x = ap (λ (rs : List (List Note)). cell Nothing rs i x) e ∙ empty_cell 16 256 Nothing i x
 
 pub blank_view :
-    (ws : List ℕ) (seats : Seats) (held : Held) (noted : Noted) → seats.states ≡ replicate 16 Ended → seats.opened ≡ 0
-    → held.rows ≡ replicate 16 (replicate 256 0) → noted.rows ≡ replicate 16 (replicate 256 Nothing) → whole ws seats held noted ≡ fresh ws
+    (ws : List ℕ) (seats : Seats) (held : Held) (noted : (Grid Note)) → (states_of seats) ≡ replicate 16 Ended → seats.opened ≡ 0
+    → held.modes.rows ≡ replicate 16 (replicate 256 0) → noted.rows ≡ replicate 16 (replicate 256 Nothing) → whole ws seats held noted ≡ fresh ws
 blank_view ws seats held noted s o h n =
     model_eq (whole ws seats held noted) (fresh ws) o
-    (λ k. ap (λ (ss : List Status). get_or ss (slot seats.numbers k) Ended) s ∙ empty 16 Ended (slot seats.numbers k))
-    (λ k x. nothing_held held.rows h (slot seats.numbers k) x)
+    (λ k. ap (λ (ss : List Status). get_or ss (slot (numbers_of seats) k) Ended) s ∙ empty 16 Ended (slot (numbers_of seats) k))
+    (λ k x. nothing_held held.modes.rows h (slot (numbers_of seats) k) x)
     refl
-    (λ k r. nothing_noted noted.rows n (slot seats.numbers k) r)
+    (λ k r. nothing_noted noted.rows n (slot (numbers_of seats) k) r)
 
 over_next : (fs ws : List ℕ) (i : ℕ) → i < length fs → set (over (take i fs) ws) i (get_or fs i 0) ≡ over (take (suc i) fs) ws
 over_next [] ws i l = absurd (omega arith)

@@ -1,4 +1,5 @@
 pub mod Places
+pub mod Sitting
 pub mod Slots
 pub mod Grids
 pub mod Tallies

@@ -14,11 +14,12 @@ use Rattle.tables.specs.declared.kernel.Core.{Core}
 use Rattle.tables.specs.Grids.{cell}
 use Rattle.tables.specs.Meetings.{holds_up_at}
 use Rattle.tables.specs.Seats.{slot, next_above}
-use Rattle.tables.specs.Views.{model, jobs_of}
+use Rattle.tables.specs.Views.{model, jobs_of, numbers_of}
 use Rattle.tables.specs.Wounds.{wounded_if}
 use Rattle.tables.proofs.Places.{next_nearest}
 use Rattle.tables.proofs.Views.{seated_given, slot_number, slot_among, among_slot, slot_own_number}
 use Rattle.tables.proofs.Wounds.{upto, upto_here, wounded_upto, skip, start, one, all}
+use Rattle.tables.proofs.Sitting.{numbers_full}
 
 -- where a search stands that has come to a job: at that job, or past all of them
 abbrev pub far : ℕ → ℕ → ℕ
@@ -30,76 +31,76 @@ far_end opened job e = cond-true (eqb job 0) (suc opened) job (eq-eqb job 0 e)
 far_at : (opened job : ℕ) → (job ≡ 0 → ⊥) → far opened job ≡ job
 far_at opened job e = cond-false (eqb job 0) (suc opened) job (ne_eqb job 0 e)
 
-module _ (s : System) (law : Lawful s) {S : Type 0} (words : S → List ℕ) (c : Core S) (a x t : ℕ) where
+module _ (s : System) (law : Lawful s) {M S : Type 0} (words : S → List ℕ) (c : Core M S) (a x t : ℕ) where
   -- whether a job gives way
   abbrev pub in_way : ℕ → Bool
   in_way k = yields s (jobs_of c.seats c.held) a x t k
 
   -- who does not stand with the target sits somewhere, since others hold nothing
-  sits : (k : ℕ) → s.stands ((jobs_of c.seats c.held).mode k x) t ≡ false → slot c.seats.numbers k < length c.seats.numbers
+  sits : (k : ℕ) → s.stands ((jobs_of c.seats c.held).mode k x) t ≡ false → slot (numbers_of c.seats) k < length (numbers_of c.seats)
   sits k e =
-      let numbers = c.seats.numbers in
+      let numbers = (numbers_of c.seats) in
       elim (cases_lt (slot numbers k) (length numbers)) [
         | inl l ↦ l
         | inr l ↦
-            let empty = get_or_past c.held.rows (slot numbers k) [] (omega (arith, l, c.seats.full.0, c.held.full)) in
+            let empty = get_or_past c.held.modes.rows (slot numbers k) [] (omega (arith, l, (numbers_full c.seats), c.held.modes.full)) in
             absurd (both_ways (s.stands ((jobs_of c.seats c.held).mode k x) t) e (ap (λ (row : List ℕ). s.stands (get_or row x 0) t) empty ∙ law.stands_none t))
       ]
 
   -- who gives way is younger and sits somewhere
-  in_way_seated : (k : ℕ) → in_way k ≡ true → (a < k) × (among k c.seats.numbers ≡ true)
+  in_way_seated : (k : ℕ) → in_way k ≡ true → (a < k) × (among k (numbers_of c.seats) ≡ true)
   in_way_seated k e =
       let young = yields_young s law (jobs_of c.seats c.held) a x t k e in
-      (young.0, slot_among c.seats.numbers k (sits k young.1))
+      (young.0, slot_among (numbers_of c.seats) k (sits k young.1))
 
   -- nobody between a number and the next gives way
-  between : (n k : ℕ) → n < k → k < far c.seats.opened (next_above n c.seats.numbers) → in_way k ≡ false
+  between : (n k : ℕ) → n < k → k < far c.seats.opened (next_above n (numbers_of c.seats)) → in_way k ≡ false
   between n k l h =
-      let next = next_above n c.seats.numbers in
+      let next = next_above n (numbers_of c.seats) in
       elim (cases_Bool (in_way k)) [
         | inr e ↦ e
         | inl e ↦
-            let least = (next_nearest n c.seats.numbers).least k (in_way_seated k e).1 l in
+            let least = (next_nearest n (numbers_of c.seats)).least k (in_way_seated k e).1 l in
             absurd (omega (arith, least.1, far_at c.seats.opened next least.0))
       ]
 
   -- How far the wounding has come, in c', when `job` is the next to be met.
-  pub record Reached (c' : Core S) (job : ℕ) : Type 0 where
-    pub numbers : c'.seats.numbers ≡ c.seats.numbers
+  pub record Reached (c' : Core M S) (job : ℕ) : Type 0 where
+    pub numbers : (numbers_of c'.seats) ≡ (numbers_of c.seats)
     pub so_far : model words c' ≡ wounded_upto in_way (far c.seats.opened job) (model words c)
-    pub seated : (job ≡ 0 → ⊥) → among job c.seats.numbers ≡ true
+    pub seated : (job ≡ 0 → ⊥) → among job (numbers_of c.seats) ≡ true
 
-  pub has_slot : (c' : Core S) (job : ℕ) → (job ≡ 0 → ⊥) → Reached c' job → slot c'.seats.numbers job < 16
+  pub has_slot : (c' : Core M S) (job : ℕ) → (job ≡ 0 → ⊥) → Reached c' job → slot (numbers_of c'.seats) job < 16
   has_slot c' job d r =
       rw r.numbers
-      (omega (arith, among_slot c.seats.numbers job d (r.seated d), c.seats.full.0))
+      (omega (arith, among_slot (numbers_of c.seats) job d (r.seated d), (numbers_full c.seats)))
 
   -- each step is nearer to the end
-  pub nearer_end : (c' : Core S) (job : ℕ) → (job ≡ 0 → ⊥) → Reached c' job
-      → (suc job ≤ far c.seats.opened (next_above job c.seats.numbers)) × (far c.seats.opened job ≡ job) × (job ≤ c.seats.opened)
+  pub nearer_end : (c' : Core M S) (job : ℕ) → (job ≡ 0 → ⊥) → Reached c' job
+      → (suc job ≤ far c.seats.opened (next_above job (numbers_of c.seats))) × (far c.seats.opened job ≡ job) × (job ≤ c.seats.opened)
   nearer_end c' job d r =
-      let next = next_above job c.seats.numbers in
+      let next = next_above job (numbers_of c.seats) in
       let here = seated_given c.seats job (r.seated d) in (
         elim (cases_eq next 0) [
           | inl z ↦ omega (arith, far_end c.seats.opened next z, here)
-          | inr z ↦ omega (arith, far_at c.seats.opened next z, (next_nearest job c.seats.numbers).above z)
+          | inr z ↦ omega (arith, far_at c.seats.opened next z, (next_nearest job (numbers_of c.seats)).above z)
         ],
         far_at c.seats.opened job d,
         here,
       )
 
-  next_seated : (n : ℕ) → (next_above n c.seats.numbers ≡ 0 → ⊥) → among (next_above n c.seats.numbers) c.seats.numbers ≡ true
-  next_seated n d = elim ((next_nearest n c.seats.numbers).found d) [ inl z ↦ absurd (d z) | inr e ↦ e ]
+  next_seated : (n : ℕ) → (next_above n (numbers_of c.seats) ≡ 0 → ⊥) → among (next_above n (numbers_of c.seats)) (numbers_of c.seats) ≡ true
+  next_seated n d = elim ((next_nearest n (numbers_of c.seats)).found d) [ inl z ↦ absurd (d z) | inr e ↦ e ]
 
-  pub begin : Reached c (next_above a c.seats.numbers)
+  pub begin : Reached c (next_above a (numbers_of c.seats))
   begin =
       record {
         numbers = refl;
-        so_far = start in_way (model words c) (far c.seats.opened (next_above a c.seats.numbers)) nobody;
+        so_far = start in_way (model words c) (far c.seats.opened (next_above a (numbers_of c.seats))) nobody;
         seated = next_seated a;
       }
     where
-      nobody : (k : ℕ) → k < far c.seats.opened (next_above a c.seats.numbers) → in_way k ≡ false
+      nobody : (k : ℕ) → k < far c.seats.opened (next_above a (numbers_of c.seats)) → in_way k ≡ false
       nobody k l =
           elim (cases_lt a k) [
             | inl h ↦ between a k h l
@@ -107,7 +108,7 @@ module _ (s : System) (law : Lawful s) {S : Type 0} (words : S → List ℕ) (c 
           ]
 
   -- one job met
-  met : (c' : Core S) (job : ℕ) → (job ≡ 0 → ⊥) → Reached c' job
+  met : (c' : Core M S) (job : ℕ) → (job ≡ 0 → ⊥) → Reached c' job
       → wounded_if (yields s (jobs_of c'.seats c'.held) a x t job) job (model words c') ≡ wounded_upto in_way (suc job) (model words c)
   met c' job d r =
       let m = model words c in
@@ -128,11 +129,11 @@ module _ (s : System) (law : Lawful s) {S : Type 0} (words : S → List ℕ) (c 
       same : (k : ℕ) → job ≤ k → k < suc job → k ≡ job
       same k l h = omega arith
 
-  pub again : (c' c'' : Core S) (job : ℕ) → (job ≡ 0 → ⊥) → Reached c' job → c''.seats.numbers ≡ c'.seats.numbers
+  pub again : (c' c'' : Core M S) (job : ℕ) → (job ≡ 0 → ⊥) → Reached c' job → (numbers_of c''.seats) ≡ (numbers_of c'.seats)
       → model words c'' ≡ wounded_if (yields s (jobs_of c'.seats c'.held) a x t job) job (model words c')
-      → Reached c'' (next_above job c.seats.numbers)
+      → Reached c'' (next_above job (numbers_of c.seats))
   again c' c'' job d r n w =
-      let next = next_above job c.seats.numbers in
+      let next = next_above job (numbers_of c.seats) in
       record {
         numbers = n ∙ r.numbers;
         so_far =
@@ -142,7 +143,7 @@ module _ (s : System) (law : Lawful s) {S : Type 0} (words : S → List ℕ) (c 
         seated = next_seated job;
       }
 
-  pub end : (c' : Core S) (job : ℕ) → job ≡ 0 → Reached c' job → model words c' ≡ model_hands.wound in_way (model words c)
+  pub end : (c' : Core M S) (job : ℕ) → job ≡ 0 → Reached c' job → model words c' ≡ model_hands.wound in_way (model words c)
   end c' job e r =
       r.so_far
       ∙ ap (λ (n : ℕ). wounded_upto in_way n (model words c)) (far_end c.seats.opened job e)
@@ -159,12 +160,12 @@ module _ (s : System) (law : Lawful s) {S : Type 0} (words : S → List ℕ) (c 
   -- a slot that holds up has a job that does
   pub held_up : (i : ℕ) → i < 16 → at_slot i ≡ true → some_below a older ≡ true
   held_up i l e =
-      let numbers = c.seats.numbers in
+      let numbers = (numbers_of c.seats) in
       let k = get_or numbers i 0 in
-      let parts = and_parts (not (eqb k 0)) (must_wait (judge s a t k (cell 0 c.held.rows i x))) e in
+      let parts = and_parts (not (eqb k 0)) (must_wait (judge s a t k (cell 0 c.held.modes.rows i x))) e in
       let some : k ≡ 0 → ⊥ = λ z. both_ways (eqb k 0) (not-true (eqb k 0) parts.0) (eq-eqb k 0 z) in
-      let own = slot_own_number numbers i (omega (arith, c.seats.full.0)) c.seats.apart some in
-      let up : older k ≡ true = ap (λ (j : ℕ). must_wait (judge s a t k (cell 0 c.held.rows j x))) own ∙ parts.1 in
+      let own = slot_own_number numbers i (omega (arith, (numbers_full c.seats))) c.seats.apart some in
+      let up : older k ≡ true = ap (λ (j : ℕ). must_wait (judge s a t k (cell 0 c.held.modes.rows j x))) own ∙ parts.1 in
       some_from a older k (blocks_old s law (jobs_of c.seats c.held) a x t k up).0 up
 
   -- and the other way round
@@ -173,17 +174,17 @@ module _ (s : System) (law : Lawful s) {S : Type 0} (words : S → List ℕ) (c 
       elim (cases_Bool (some_below a older)) [
         | inr e ↦ e
         | inl e ↦
-            let numbers = c.seats.numbers in
+            let numbers = (numbers_of c.seats) in
             let found = some_at a older e in
             let k = found.0 in
             let old = blocks_old s law (jobs_of c.seats c.held) a x t k found.2 in
             let l = sits k old.1 in
             let number = slot_number numbers k l in
             let here : at_slot (slot numbers k) ≡ true =
-            ap (λ (j : ℕ). not (eqb j 0) && must_wait (judge s a t j (cell 0 c.held.rows (slot numbers k) x))) number.0
+            ap (λ (j : ℕ). not (eqb j 0) && must_wait (judge s a t j (cell 0 c.held.modes.rows (slot numbers k) x))) number.0
             ∙ and_from (not (eqb k 0)) (older k) (not_from_false (eqb k 0) (ne_eqb k 0 number.1)) found.2
             in
-            absurd (both_ways (some_below 16 at_slot) none (some_from 16 at_slot (slot numbers k) (omega (arith, l, c.seats.full.0)) here))
+            absurd (both_ways (some_below 16 at_slot) none (some_from 16 at_slot (slot numbers k) (omega (arith, l, (numbers_full c.seats))) here))
       ]
 
   -- where everybody stands with the target nobody is in the way

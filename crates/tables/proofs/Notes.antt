@@ -15,14 +15,15 @@ use Rattle.ledger.specs.declared.job.Note.TheVariants.{Nothing}
 use Rattle.ledger.specs.Jobs.{put}
 use Rattle.ledger.specs.Models.{noted, word_at, carried}
 use Rattle.tables.specs.declared.held.Held.{Held}
-use Rattle.tables.specs.declared.noted.Noted.{Noted}
+use Rattle.tables.specs.declared.grid.Grid.{Grid}
 use Rattle.tables.specs.declared.seats.Seats.{Seats}
 use Rattle.tables.specs.Grids.{cell}
 use Rattle.tables.specs.Notes.{noted_at}
 use Rattle.tables.specs.Seats.{slot}
-use Rattle.tables.specs.Views.{whole}
+use Rattle.tables.specs.Views.{whole, numbers_of}
 use Rattle.tables.proofs.Views.{view_row}
 use Rattle.tables.proofs.Wounds.{model_eq}
+use Rattle.tables.proofs.Sitting.{numbers_full}
 
 -- a read notes nothing
 still : (a : Action) (w : ℕ) (n : Note) → kind a ≡ Reading → noted a w n ≡ n
@@ -47,16 +48,16 @@ module _ (ps : List ℕ) (o : Operation) (ws : List ℕ) where
 
 -- The notes of a slot taken, and the words changed: the operation of its job carried out in the model.
 pub carry_view :
-    (s : System) (ps ws ws' : List ℕ) (seats : Seats) (held : Held) (before after_it : Noted) (k : ℕ) (o : Operation) → slot seats.numbers k < 16
-    → after_it.rows ≡ set before.rows (slot seats.numbers k) (get_or after_it.rows (slot seats.numbers k) [])
-    → ((r : ℕ) → cell Nothing after_it.rows (slot seats.numbers k) r ≡ noted_at ps o ws r (cell Nothing before.rows (slot seats.numbers k) r))
+    (s : System) (ps ws ws' : List ℕ) (seats : Seats) (held : Held) (before after_it : (Grid Note)) (k : ℕ) (o : Operation) → slot (numbers_of seats) k < 16
+    → after_it.rows ≡ set before.rows (slot (numbers_of seats) k) (get_or after_it.rows (slot (numbers_of seats) k) [])
+    → ((r : ℕ) → cell Nothing after_it.rows (slot (numbers_of seats) k) r ≡ noted_at ps o ws r (cell Nothing before.rows (slot (numbers_of seats) k) r))
     → ws' ≡ after ps o ws
     → whole ws' seats held after_it ≡ carried (record { system = s; parents = ps }) k o (whole ws seats held before)
 carry_view s ps ws ws' seats held before after_it k o l others notes w =
-    let numbers = seats.numbers in
+    let numbers = (numbers_of seats) in
     let row = get_or after_it.rows (slot numbers k) [] in
     model_eq (whole ws' seats held after_it) (carried (record { system = s; parents = ps }) k o (whole ws seats held before)) refl (λ j. refl) (λ j x. refl) w
     (λ j r.
     ap (λ (rows : List (List Note)). cell Nothing rows (slot numbers j) r) others
-    ∙ view_row before.rows Nothing numbers k row (before.full ∙ sym seats.full.0) (omega (arith, seats.full.0)) j r
+    ∙ view_row before.rows Nothing numbers k row (before.full ∙ sym (numbers_full seats)) (omega (arith, (numbers_full seats))) j r
     ∙ ap (λ (f : ℕ → Note). put {A = ℕ → Note} k f (λ i y. cell Nothing before.rows (slot numbers i) y) j r) (fun_ext notes))

@@ -35,6 +35,15 @@ place_at (x ∷ xs) k l =
           ∙ place_at xs k (omega (arith, place_later x xs k e))
     ]
 
+-- a first place is no further than the end
+pub place_bound : (xs : List ℕ) (k : ℕ) → place xs k ≤ length xs
+place_bound [] k = omega arith
+place_bound (x ∷ xs) k =
+    elim (cases_eq x k) [
+      | inl e ↦ omega (arith, place_here x xs k e)
+      | inr e ↦ omega (arith, place_later x xs k e, place_bound xs k)
+    ]
+
 -- numbers that were given stay so when more are
 pub given_more : (n m : ℕ) (xs : List ℕ) → n ≤ m → all_given n xs ≡ true → all_given m xs ≡ true
 given_more n m [] h e = refl

@@ -14,8 +14,6 @@ use Rattle.ledger.specs.Ledgers.{Layout, facts, attempt}
 use Rattle.ledger.specs.Promises.{Shaped}
 use Rattle.ledger.specs.Models.{Model, Served, model_hands, refused_or, serve, try}
 use Rattle.ledger.specs.Walks.{Walked}
-use Rattle.tables.specs.declared.turn.Turn.{Turn}
-use Rattle.tables.specs.declared.turn.Turn.TheVariants.{Through, Stopped}
 use Rattle.tables.specs.Replies.{as_outcome, InShape}
 use Rattle.tables.proofs.Tries.{follows}
 
@@ -44,8 +42,8 @@ module _ (y : Layout) (j : ℕ) (o : Operation) (m : Model) (t : Outcome) where
   said_shaped e = by_row (refusal (facts y m.jobs) (Carry j o)) e
 
 pub in_shape :
-    (y : Layout) (j : ℕ) (o : Operation) (m n : Model) (r : Result (Turn Outcome) Refusal)
+    (y : Layout) (j : ℕ) (o : Operation) (m n : Model) (r : Result (Option Outcome) Refusal)
     → serve y (Carry j o) m ≡ record { left = n; said = as_outcome r } → InShape o.action r
-in_shape y j o m n (Ok (Through t)) e = said_shaped y j o m t (ap (λ (s : Served). s.said) e)
-in_shape y j o m n (Ok Stopped) e = tt
+in_shape y j o m n (Ok (Some t)) e = said_shaped y j o m t (ap (λ (s : Served). s.said) e)
+in_shape y j o m n (Ok None) e = tt
 in_shape y j o m n (Err r) e = tt

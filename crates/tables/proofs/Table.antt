@@ -16,6 +16,8 @@ use Rattle.ledger.specs.Models.{Model, Served, serve, grant, refused_or}
 use Rattle.tables.specs.declared.seats.Seats.{Seats}
 use Rattle.tables.specs.Rows.{unless_working, unless_wounded, if_ended}
 use Rattle.tables.specs.Seats.{slot, status_of}
+use Rattle.tables.specs.Views.{numbers_of, states_of}
+use Rattle.tables.proofs.Sitting.{states_full}
 
 -- Openings, by the two counts that the table looks at.
 module _ (y : Layout) (js : Jobs) where
@@ -36,14 +38,14 @@ module _ (y : Layout) (js : Jobs) where
   open_free e f = ap₂ rows_of_open e f
 
 -- Whoever has not ended sits in a slot.
-pub has_seat : (seats : Seats) (k : ℕ) → is_ended (status_of seats.numbers seats.states k) ≡ false → slot seats.numbers k < 16
+pub has_seat : (seats : Seats) (k : ℕ) → is_ended (status_of (numbers_of seats) (states_of seats) k) ≡ false → slot (numbers_of seats) k < 16
 has_seat seats k e =
-    elim (cases_lt (slot seats.numbers k) 16) [
+    elim (cases_lt (slot (numbers_of seats) k) 16) [
       | inl l ↦ l
       | inr l ↦
           absurd
-          (both_ways (is_ended (status_of seats.numbers seats.states k)) e
-          (ap is_ended (get_or_past seats.states (slot seats.numbers k) Ended (omega (arith, l, seats.full.1)))))
+          (both_ways (is_ended (status_of (numbers_of seats) (states_of seats) k)) e
+          (ap is_ended (get_or_past (states_of seats) (slot (numbers_of seats) k) Ended (omega (arith, l, (states_full seats))))))
     ]
 
 -- what a state is that no row refuses

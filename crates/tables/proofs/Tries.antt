@@ -8,6 +8,7 @@ use Rattle.granules.specs.Paths.{path}
 use Rattle.operations.specs.declared.operation.Operation.{Operation}
 use Rattle.operations.specs.Actions.{kind}
 use Rattle.operations.specs.Words.{answer}
+use Rattle.ledger.specs.declared.job.Note.{Note}
 use Rattle.ledger.specs.declared.job.Note.TheVariants.{Nothing}
 use Rattle.ledger.specs.declared.job.Status.{Status}
 use Rattle.ledger.specs.declared.job.Status.TheVariants.{Wounded, Ended}
@@ -21,16 +22,17 @@ use Rattle.ledger.proofs.Walking.{walk_covered, walk_same, walk_stops, walk_goes
 use Rattle.ledger.proofs.Wounds.{where_false}
 use Rattle.tables.specs.declared.kernel.walks.Walker.{Walker}
 use Rattle.tables.specs.declared.held.Held.{Held}
-use Rattle.tables.specs.declared.noted.Noted.{Noted}
+use Rattle.tables.specs.declared.grid.Grid.{Grid}
 use Rattle.tables.specs.declared.seats.Seats.{Seats}
 use Rattle.tables.specs.Grids.{cell}
 use Rattle.tables.specs.Seats.{slot}
 use Rattle.tables.specs.Slots.{moved, walked}
 use Rattle.tables.specs.Steps.{walk_on}
-use Rattle.tables.specs.Views.{whole, jobs_of}
+use Rattle.tables.specs.Views.{whole, jobs_of, numbers_of, states_of}
 use Rattle.tables.proofs.Slots.{tried, settles}
 use Rattle.tables.proofs.Views.{view_set}
 use Rattle.tables.proofs.Wounds.{model_eq}
+use Rattle.tables.proofs.Sitting.{numbers_full, states_full}
 
 module _ (s : System) (w : Walker) where
   abbrev own : Model → ℕ → ℕ
@@ -68,39 +70,39 @@ module _ (s : System) (w : Walker) where
 
 -- A state written in a slot is the state of its job.
 pub turn_view :
-    (ws : List ℕ) (seats seats' : Seats) (held : Held) (noted : Noted) (k : ℕ) (st : Status) → slot seats.numbers k < 16
-    → seats'.numbers ≡ seats.numbers → seats'.states ≡ set seats.states (slot seats.numbers k) st → seats'.opened ≡ seats.opened
+    (ws : List ℕ) (seats seats' : Seats) (held : Held) (noted : (Grid Note)) (k : ℕ) (st : Status) → slot (numbers_of seats) k < 16
+    → (numbers_of seats') ≡ (numbers_of seats) → (states_of seats') ≡ set (states_of seats) (slot (numbers_of seats) k) st → seats'.opened ≡ seats.opened
     → whole ws seats' held noted ≡ model_hands.with_jobs (now_is k st (jobs_of seats held)) (whole ws seats held noted)
 turn_view ws seats seats' held noted k st l n s o =
-    let numbers = seats.numbers in
-    let full = seats.full.0 in
+    let numbers = (numbers_of seats) in
+    let full = (numbers_full seats) in
     model_eq (whole ws seats' held noted) (model_hands.with_jobs (now_is k st (jobs_of seats held)) (whole ws seats held noted)) o
     (λ j.
     ap₂ (λ (ns : List ℕ) (ss : List Status). get_or ss (slot ns j) Ended) n s
-    ∙ view_set seats.states Ended numbers k st (seats.full.1 ∙ sym full) (omega (arith, full)) j)
-    (λ j x. ap (λ (ns : List ℕ). cell 0 held.rows (slot ns j) x) n)
+    ∙ view_set (states_of seats) Ended numbers k st ((states_full seats) ∙ sym full) (omega (arith, full)) j)
+    (λ j x. ap (λ (ns : List ℕ). cell 0 held.modes.rows (slot ns j) x) n)
     refl
     (λ j r. ap (λ (ns : List ℕ). cell Nothing noted.rows (slot ns j) r) n)
 
 -- A walk, and the state that follows on it, are an attempt.
 pub attempt_view :
-    (s : System) (ps : List ℕ) (m : Model) (ws : List ℕ) (seats seats' : Seats) (held : Held) (noted : Noted) (job : ℕ) (o : Operation) (kd : Kind)
+    (s : System) (ps : List ℕ) (m : Model) (ws : List ℕ) (seats seats' : Seats) (held : Held) (noted : (Grid Note)) (job : ℕ) (o : Operation) (kd : Kind)
     (xs : List ℕ) (b : Bool) (i : ℕ)
     → kd ≡ kind o.action → xs ≡ path ps o.granule
     → walk_on s (record { job = job; kind = kd; goal = o.granule }) xs m ≡ record { left = whole ws seats held noted; complete = b }
-    → is_open (m.jobs.status job) ≡ true → slot seats.numbers job < 16 → i ≡ slot seats.numbers job
-    → seats'.numbers ≡ seats.numbers → seats'.states ≡ set seats.states i (moved (get_or seats.states i Ended) (walked o b)) → seats'.opened ≡ seats.opened
+    → is_open (m.jobs.status job) ≡ true → slot (numbers_of seats) job < 16 → i ≡ slot (numbers_of seats) job
+    → (numbers_of seats') ≡ (numbers_of seats) → (states_of seats') ≡ set (states_of seats) i (moved (get_or (states_of seats) i Ended) (walked o b)) → seats'.opened ≡ seats.opened
     → attempt model_hands (record { system = s; parents = ps }) job o m ≡ record { left = whole ws seats' held noted; complete = b }
 attempt_view s ps m ws seats seats' held noted job o kd xs b i ke xe went open_then l ie n st op =
     let w : Walker = record { job = job; kind = kd; goal = o.granule } in
-    let at = slot seats.numbers job in
-    let opened : is_open (get_or seats.states at Ended) ≡ true =
+    let at = slot (numbers_of seats) job in
+    let opened : is_open (get_or (states_of seats) at Ended) ≡ true =
     ap (λ (r : Walked Model). is_open (r.left.jobs.status job)) (sym went) ∙ ap is_open (walk_own s w xs m) ∙ open_then
     in
-    let after_it : seats'.states ≡ set seats.states at (tried o b) =
+    let after_it : (states_of seats') ≡ set (states_of seats) at (tried o b) =
     st
-    ∙ ap (λ (j : ℕ). set seats.states j (moved (get_or seats.states j Ended) (walked o b))) ie
-    ∙ ap (set seats.states at) (settles o b (get_or seats.states at Ended) opened)
+    ∙ ap (λ (j : ℕ). set (states_of seats) j (moved (get_or (states_of seats) j Ended) (walked o b))) ie
+    ∙ ap (set (states_of seats) at) (settles o b (get_or (states_of seats) at Ended) opened)
     in
     ap₂ (λ (k : Kind) (ys : List ℕ). ending (walk_on s (record { job = job; kind = k; goal = o.granule }) ys m)) (sym ke) (sym xe)
     ∙ ap ending went

@@ -12,6 +12,8 @@ use Rattle.tables.specs.Grids.{cell, with_cell}
 use Rattle.tables.specs.Seats.{place, slot, distinct}
 use Rattle.tables.proofs.Grids.{empty}
 use Rattle.tables.proofs.Places.{place_at, place_among, among_place, place_own, new_among}
+use Rattle.tables.specs.Views.{numbers_of, states_of}
+use Rattle.tables.proofs.Sitting.{numbers_full, free_at}
 
 pub slot_none : (numbers : List ℕ) (k : ℕ) → k ≡ 0 → slot numbers k ≡ length numbers
 slot_none numbers k e = let t = eq-eqb k 0 e in rw (t, slot)
@@ -52,26 +54,26 @@ slot_own numbers j k e l =
     sym a ∙ ap (λ (i : ℕ). get_or numbers i 0) e ∙ b
 
 -- whoever sits in a slot was given its number
-pub seated_given : (seats : Seats) (k : ℕ) → among k seats.numbers ≡ true → k ≤ seats.opened
+pub seated_given : (seats : Seats) (k : ℕ) → among k (numbers_of seats) ≡ true → k ≤ seats.opened
 seated_given seats k e =
     elim (cases_lt seats.opened k) [
-      | inl l ↦ absurd (both_ways (among k seats.numbers) (new_among seats.opened seats.numbers k l seats.known) e)
+      | inl l ↦ absurd (both_ways (among k (numbers_of seats)) (new_among seats.opened (numbers_of seats) k l seats.known) e)
       | inr l ↦ l
     ]
 
 -- whoever sits in a slot has not ended
-pub seated_lives : (seats : Seats) (k : ℕ) → slot seats.numbers k < 16 → is_ended (get_or seats.states (slot seats.numbers k) Ended) ≡ false
+pub seated_lives : (seats : Seats) (k : ℕ) → slot (numbers_of seats) k < 16 → is_ended (get_or (states_of seats) (slot (numbers_of seats) k) Ended) ≡ false
 seated_lives seats k l =
-    let n = slot_number seats.numbers k (omega (arith, seats.full.0)) in
-    sym (seats.free (slot seats.numbers k))
+    let n = slot_number (numbers_of seats) k (omega (arith, (numbers_full seats))) in
+    sym (free_at seats (slot (numbers_of seats) k))
     ∙ ap (λ (j : ℕ). eqb j 0) n.0
     ∙ ne_eqb k 0 n.1
 
 -- and its slot is not free
-pub not_free : (seats : Seats) (k i : ℕ) → slot seats.numbers k < 16 → get_or seats.numbers i 0 ≡ 0 → i ≡ slot seats.numbers k → ⊥
+pub not_free : (seats : Seats) (k i : ℕ) → slot (numbers_of seats) k < 16 → get_or (numbers_of seats) i 0 ≡ 0 → i ≡ slot (numbers_of seats) k → ⊥
 not_free seats k i l free e =
-    let n = slot_number seats.numbers k (omega (arith, seats.full.0)) in
-    n.1 (sym n.0 ∙ ap (λ (j : ℕ). get_or seats.numbers j 0) (sym e) ∙ free)
+    let n = slot_number (numbers_of seats) k (omega (arith, (numbers_full seats))) in
+    n.1 (sym n.0 ∙ ap (λ (j : ℕ). get_or (numbers_of seats) j 0) (sym e) ∙ free)
 
 -- A row written at the slot of job k is what job k has, and nobody else.
 pub view_set :

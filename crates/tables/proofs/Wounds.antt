@@ -12,9 +12,10 @@ use Rattle.ledger.proofs.Wounds.{where_true, where_false, where_cong}
 use Rattle.tables.specs.declared.kernel.Core.{Core}
 use Rattle.tables.specs.Grids.{cell}
 use Rattle.tables.specs.Seats.{slot}
-use Rattle.tables.specs.Views.{model}
+use Rattle.tables.specs.Views.{model, numbers_of, states_of}
 use Rattle.tables.specs.Wounds.{wounded_one}
 use Rattle.tables.proofs.Views.{view_set, view_wiped}
+use Rattle.tables.proofs.Sitting.{numbers_full, states_full}
 
 -- models that agree in all parts
 pub model_eq :
@@ -32,23 +33,23 @@ model_eq m n o s d w t =
 
 -- The job in a slot wounded is that job wounded in the model.
 pub wound_view :
-    {S : Type 0} (words : S → List ℕ) (c c' : Core S) (k : ℕ) → slot c.seats.numbers k < 16
-    → words c'.shelf ≡ taken_back (cell Nothing c.noted.rows (slot c.seats.numbers k)) (words c.shelf)
-    → c'.seats.numbers ≡ c.seats.numbers → c'.seats.states ≡ set c.seats.states (slot c.seats.numbers k) Wounded
-    → c'.seats.opened ≡ c.seats.opened → c'.held.rows ≡ set c.held.rows (slot c.seats.numbers k) (replicate 256 0)
-    → c'.noted.rows ≡ set c.noted.rows (slot c.seats.numbers k) (replicate 256 Nothing)
+    {M S : Type 0} (words : S → List ℕ) (c c' : Core M S) (k : ℕ) → slot (numbers_of c.seats) k < 16
+    → words c'.shelf ≡ taken_back (cell Nothing c.noted.rows (slot (numbers_of c.seats) k)) (words c.shelf)
+    → (numbers_of c'.seats) ≡ (numbers_of c.seats) → (states_of c'.seats) ≡ set (states_of c.seats) (slot (numbers_of c.seats) k) Wounded
+    → c'.seats.opened ≡ c.seats.opened → c'.held.modes.rows ≡ set c.held.modes.rows (slot (numbers_of c.seats) k) (replicate 256 0)
+    → c'.noted.rows ≡ set c.noted.rows (slot (numbers_of c.seats) k) (replicate 256 Nothing)
     → model words c' ≡ wounded_one k (model words c)
 wound_view words c c' k l w n s o h t =
-    let numbers = c.seats.numbers in
-    let full = c.seats.full.0 in
+    let numbers = (numbers_of c.seats) in
+    let full = (numbers_full c.seats) in
     let within : slot numbers k < length numbers = omega (arith, full) in
     model_eq (model words c') (wounded_one k (model words c)) o
     (λ j.
     ap₂ (λ (ns : List ℕ) (ss : List Status). get_or ss (slot ns j) Ended) n s
-    ∙ view_set c.seats.states Ended numbers k Wounded (c.seats.full.1 ∙ sym full) within j)
+    ∙ view_set (states_of c.seats) Ended numbers k Wounded ((states_full c.seats) ∙ sym full) within j)
     (λ j x.
     ap₂ (λ (ns : List ℕ) (rows : List (List ℕ)). cell 0 rows (slot ns j) x) n h
-    ∙ view_wiped c.held.rows 0 numbers k (c.held.full ∙ sym full) within j x)
+    ∙ view_wiped c.held.modes.rows 0 numbers k (c.held.modes.full ∙ sym full) within j x)
     w
     (λ j r.
     ap₂ (λ (ns : List ℕ) (rows : List (List Note)). cell Nothing rows (slot ns j) r) n t

@@ -1,5 +1,5 @@
 -- What is laid out, and what an operation comes to.
-
+use Rattle.std.specs.Prelude.{Some, None, Option}
 use Rattle.modes.specs.Systems.{System}
 use Rattle.granules.specs.declared.tree.Tree.{Tree}
 use Rattle.granules.specs.Trees.{table}
@@ -7,13 +7,11 @@ use Rattle.operations.specs.declared.operation.Outcome.{Outcome}
 use Rattle.ledger.specs.declared.call.Answer.{Answer}
 use Rattle.ledger.specs.declared.call.Answer.TheVariants.{Told, Waits}
 use Rattle.ledger.specs.Ledgers.{Layout}
-use Rattle.tables.specs.declared.turn.Turn.{Turn}
-use Rattle.tables.specs.declared.turn.Turn.TheVariants.{Through, Stopped}
 
 abbrev pub layout : System → Tree → Layout
 layout s t = record { system = s; parents = table t }
 
--- the answer that is made of a turn
-abbrev pub told : Turn Outcome → Answer
-told (Through o) = Told o
-told Stopped = Waits
+-- the answer of an operation whose outcome is f of what there is; where there is nothing, it waits for an older job
+abbrev pub told : {T : Type 0} → (T → Outcome) → Option T → Answer
+told f (Some x) = Told (f x)
+told f None = Waits

@@ -3,17 +3,17 @@ ghost use Rattle.std.specs.Prelude.{◌≡◌, ℕ, true, length};
 ghost use Rattle.tables.specs.Grids.{all_long, cell};
 ghost use Rattle.tables.specs.Heads.{tally};
 
+use crate::grid::Grid;
+
 pub mod cells;
 pub mod counts;
 
-// A row for each of the 16 slots, with the mode held on each of 256 granules; and for each granule, how many slots hold
-// each mode, which agrees with the rows at any time.
-#[derive(Clone, Copy)]
+// The mode that each slot holds on each granule; and for each granule, how many slots hold each mode, which agrees with
+// these at any time.
+#[derive(Drop)]
 pub struct Held {
-    rows: [[u8; 256]; 16],
+    modes: Grid<u8>,
     counts: [[u8; 16]; 256],
-    ghost full: { length rows ≡ 16 },
-    ghost long: { all_long 256 rows ≡ true },
     ghost counted: { (length counts ≡ 256) × (all_long 16 counts ≡ true) },
-    ghost agree: { (x m : ℕ) → cell 0 counts x m ≡ tally rows x m },
+    ghost agree: { (x m : ℕ) → cell 0 counts x m ≡ tally modes.rows x m },
 }

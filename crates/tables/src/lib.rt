@@ -21,15 +21,14 @@
 // is), then what the parts are held to.
 #![tactic(auto)]
 
+mod claim;
+mod grid;
 mod head;
 mod held;
-mod judge;
 pub mod kernel;
-mod noted;
 mod rows;
+mod seat;
 mod seats;
 mod slot;
-pub mod turn;
 
 pub use kernel::Core;
-pub use turn::Turn;

@@ -5,11 +5,9 @@ ghost use Rattle.tables.specs.Slots.{moved, walked};
 use ledger::Status;
 use operations::Operation;
 
-// What can happen to a job.
+// What can happen to a job while it sits in its slot.
 #[derive(Clone, Copy)]
 pub enum Event {
-    // it is opened
-    Open,
     // its walk is completed
     Through,
     // its walk for this operation stops
@@ -18,8 +16,6 @@ pub enum Event {
     Wound,
     // it is reopened
     Reopen,
-    // it commits or gives up
-    End,
 }
 
 impl Event {
@@ -35,26 +31,26 @@ impl Event {
     }
 }
 
-// The job in a slot, by its state. A slot whose job has ended is free.
+// The job in a slot: its number, and its state.
 #[derive(Clone, Copy)]
 pub struct Slot {
+    pub number: u32,
     pub state: Status,
 }
 
 impl Slot {
     // Moves to the state that follows; an event that the state does not know leaves it.
     pub fn meet(&mut self, event: Event)
-        ensures after { self.new.state ≡ moved self.old.state event }
+        ensures number { self.new.number ≡ self.old.number }
+        ensures state { self.new.state ≡ moved self.old.state event }
     {
         self.state = match (self.state, event) {
-            (Status::Ended, Event::Open) => Status::Working,
             (Status::Working | Status::Waiting(_), Event::Through) => Status::Working,
             (Status::Working | Status::Waiting(_), Event::Stop(operation)) => Status::Waiting(
                 operation,
             ),
             (Status::Working | Status::Waiting(_), Event::Wound) => Status::Wounded,
             (Status::Wounded, Event::Reopen) => Status::Working,
-            (Status::Working | Status::Waiting(_) | Status::Wounded, Event::End) => Status::Ended,
             (state, _) => state,
         };
     }

@@ -1,7 +1,15 @@
 // A head made from a row.
-ghost use Rattle.std.specs.Prelude.{◌≡◌, sum};
+ghost use Rattle.std.specs.Prelude.{◌≡◌, ◌≤◌, length, sum};
 
 use super::{Head, Row};
+
+// Counts added up.
+fn added(counts: &[u8]) -> u32
+    requires { length counts.now ≤ 256 }
+    ensures { result ≡ sum counts.now }
+{
+    counts.iter().map(|count| u32::from(*count)).sum()
+}
 
 impl Head {
     // The row with its counts added up.
@@ -9,13 +17,9 @@ impl Head {
         ensures counts { result.counts ≡ row.counts }
         ensures group { result.group ≡ row.group }
     {
-        let mut holders = 0;
-        for mode in 0..16 {
-            holders += u32::from(row.counts[mode]);
-        }
         Head {
             counts: row.counts,
-            holders,
+            holders: added(&row.counts),
             group: row.group,
         }
     }

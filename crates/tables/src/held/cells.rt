@@ -4,54 +4,49 @@ ghost use Rattle.tables.specs.Grids.{cell, with_cell};
 
 use super::Held;
 use super::counts::{with, without};
+use crate::grid::Grid;
+use crate::seat::Seat;
 
 impl Held {
     // Nobody holds anything.
     pub fn new() -> Held
-        ensures rows { result.rows ≡ replicate 16 (replicate 256 0) }
+        ensures rows { result.modes.rows ≡ replicate 16 (replicate 256 0) }
     {
         Held {
-            rows: [[0; 256]; 16],
+            modes: Grid::filled(0),
             counts: [[0; 16]; 256],
         }
     }
 
-    pub(crate) fn get(&self, slot: usize, granule: usize) -> u8
-        requires slot { slot < 16 }
-        requires granule { granule < 256 }
-        ensures value { result ≡ cell 0 self.now.rows slot granule }
+    pub(crate) fn get(&self, seat: Seat, granule: u8) -> u8
+        ensures value { result ≡ cell 0 self.now.modes.rows seat.slot granule }
     {
-        self.rows[slot][granule]
+        self.modes.get(seat, granule)
     }
 
-    pub(crate) fn put(&mut self, slot: usize, granule: usize, mode: u8)
-        requires slot { slot < 16 }
-        requires granule { granule < 256 }
-        requires mode { mode < 16 }
-        ensures rows { self.new.rows ≡ with_cell self.old.rows slot granule mode }
+    pub(crate) fn put(&mut self, seat: Seat, granule: u8, mode: u8)
+        requires { mode < 16 }
+        ensures rows { self.new.modes.rows ≡ with_cell self.old.modes.rows seat.slot granule mode }
     {
-        let old = self.rows[slot][granule];
-        let others = without(self.counts[granule], old);
-        self.counts[granule] = with(others, mode);
-        self.rows[slot][granule] = mode;
+        let old = self.modes.get(seat, granule);
+        let others = without(self.counts[granule as usize], old);
+        self.counts[granule as usize] = with(others, mode);
+        self.modes.put(seat, granule, mode);
     }
 
     // A slot lets go of a granule.
-    fn release(&mut self, slot: usize, granule: usize)
-        requires slot { slot < 16 }
-        requires granule { granule < 256 }
-        ensures rows { self.new.rows ≡ with_cell self.old.rows slot granule 0 }
+    fn release(&mut self, seat: Seat, granule: u8)
+        ensures rows { self.new.modes.rows ≡ with_cell self.old.modes.rows seat.slot granule 0 }
     {
-        self.put(slot, granule, 0);
+        self.put(seat, granule, 0);
     }
 
     // A slot lets go of everything.
-    pub(crate) fn wipe(&mut self, slot: usize)
-        requires { slot < 16 }
-        ensures rows { self.new.rows ≡ slice_set self.old.rows slot (replicate 256 0) }
+    pub(crate) fn wipe(&mut self, seat: Seat)
+        ensures rows { self.new.modes.rows ≡ slice_set self.old.modes.rows seat.slot (replicate 256 0) }
     {
-        for granule in 0..256 {
-            self.release(slot, granule);
+        for granule in 0..=u8::MAX {
+            self.release(seat, granule);
         }
     }
 }

@@ -42,12 +42,11 @@ fn if_held(counts: &[u8; 16], mode: usize) -> u8
 
 impl Held {
     // The row of a granule: its counts, and the join of the modes that somebody holds.
-    pub(crate) fn row<M: ModeSystem>(&self, system: &M, granule: usize) -> Row
-        requires { granule < 256 }
+    pub(crate) fn row<M: ModeSystem>(&self, system: &M, granule: u8) -> Row
         ensures counts { result.counts ≡ slice_index_or self.now.counts granule [] }
         ensures group { result.group ≡ group_of M.ModeSystem.meaning (slice_index_or self.now.counts granule []) }
     {
-        let counts = self.counts[granule];
+        let counts = self.counts[granule as usize];
         let mut group = 0;
         for mode in 0..16 {
             group = system.join(group, if_held(&counts, mode));

@@ -1,5 +1,5 @@
 // Questions to what an engine keeps.
-ghost use Rattle.std.specs.Prelude.{◌≡◌, suc, ◌<◌};
+ghost use Rattle.std.specs.Prelude.{◌≡◌, suc};
 ghost use Rattle.ledger.specs.Promises.{group, holders};
 ghost use Rattle.tables.specs.Views.{jobs_of};
 
@@ -9,20 +9,21 @@ use ledger::Status;
 use modes::system::ModeSystem;
 use shelf::Shelf;
 
-impl<S: Shelf> Core<S> {
+impl<M, S: Shelf> Core<M, S> {
     pub(super) fn status(&self, job: u32) -> Status
         ensures value { result ≡ (jobs_of self.now.seats self.now.held).status job }
     {
         self.seats.status(job)
     }
+}
 
+impl<M: ModeSystem, S: Shelf> Core<M, S> {
     // The group mode of a granule, and how many hold one.
-    pub(super) fn head<M: ModeSystem>(&self, system: &M, granule: usize) -> (u8, u32)
-        requires { granule < 256 }
+    pub(super) fn head(&self, granule: u8) -> (u8, u32)
         ensures group { result.0 ≡ group M.ModeSystem.meaning (jobs_of self.now.seats self.now.held) granule (suc self.now.seats.opened) }
         ensures holders { result.1 ≡ holders (jobs_of self.now.seats self.now.held) granule }
     {
-        let head = Head::of(self.held.row(system, granule));
+        let head = Head::of(self.held.row(&self.system, granule));
         (head.group(), head.holders())
     }
 }

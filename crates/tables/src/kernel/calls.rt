@@ -9,56 +9,48 @@ ghost use Rattle.tables.specs.Views.{model};
 
 use super::Core;
 use crate::rows::{must_be_wounded, must_not_have_ended, must_wait, must_work};
-use crate::turn::Turn;
 use granules::Tree;
 use ledger::Refusal;
 use modes::system::ModeSystem;
 use operations::{Operation, Outcome};
 use shelf::Shelf;
 
-impl<S: Shelf> Core<S> {
+impl<M: ModeSystem, S: Shelf> Core<M, S> {
     // A new job, while fewer than 16 have not ended and fewer than 1,000,000 were opened.
     pub fn open(&mut self) -> Result<u32, Refusal>
         ensures served { (y : Layout) → serve y Open (model S.Shelf.words self.old) ≡ record { left = model S.Shelf.words self.new; said = as_job result } }
     {
-        let slot = self.seats.free_slot();
-        if slot >= 16 {
+        let Some(seat) = self.seats.free_seat() else {
             return Err(Refusal::TooManyJobs);
-        }
+        };
         if self.seats.opened() >= 1000000 {
             return Err(Refusal::NumbersUsedUp);
         }
-        Ok(self.seat(slot))
+        Ok(self.seat(seat))
     }
 
     // An operation of a working job.
-    pub fn operate<M: ModeSystem>(
+    pub fn operate(
         &mut self,
-        system: &M,
         tree: &Tree,
         job: u32,
         operation: Operation,
-    ) -> Result<Turn<Outcome>, Refusal>
+    ) -> Result<Option<Outcome>, Refusal>
         ensures served { serve (layout M.ModeSystem.meaning tree.now) (Carry job operation) (model S.Shelf.words self.old) ≡ record { left = model S.Shelf.words self.new; said = as_outcome result } }
     {
         must_work(self.status(job))?;
         if !tree.has(operation.granule as usize) {
             return Err(Refusal::NoSuchGranule);
         }
-        Ok(self.try_out(system, tree, job, operation))
+        Ok(self.try_out(tree, job, operation))
     }
 
     // The operation for which a job waits, tried anew.
-    pub fn go<M: ModeSystem>(
-        &mut self,
-        system: &M,
-        tree: &Tree,
-        job: u32,
-    ) -> Result<Turn<Outcome>, Refusal>
+    pub fn go(&mut self, tree: &Tree, job: u32) -> Result<Option<Outcome>, Refusal>
         ensures served { serve (layout M.ModeSystem.meaning tree.now) (Go job) (model S.Shelf.words self.old) ≡ record { left = model S.Shelf.words self.new; said = as_outcome result } }
     {
         let operation = must_wait(self.status(job))?;
-        Ok(self.try_out(system, tree, job, operation))
+        Ok(self.try_out(tree, job, operation))
     }
 
     // A wounded job works again, with no operations.
@@ -89,18 +81,13 @@ impl<S: Shelf> Core<S> {
     }
 
     // The group mode of a granule, and how many hold one.
-    pub fn look<M: ModeSystem>(
-        &self,
-        system: &M,
-        tree: &Tree,
-        granule: u32,
-    ) -> Result<(u8, u32), Refusal>
+    pub fn look(&self, tree: &Tree, granule: u32) -> Result<(u8, u32), Refusal>
         ensures served { serve (layout M.ModeSystem.meaning tree.now) (Look granule) (model S.Shelf.words self.now) ≡ record { left = model S.Shelf.words self.now; said = as_head result } }
     {
         let granule = granule as usize;
         if !tree.has(granule) {
             return Err(Refusal::NoSuchGranule);
         }
-        Ok(self.head(system, granule))
+        Ok(self.head(granule as u8))
     }
 }

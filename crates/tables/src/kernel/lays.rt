@@ -4,21 +4,23 @@ ghost use Rattle.ledger.specs.Models.{fresh};
 ghost use Rattle.tables.specs.Views.{model, words_on, over};
 
 use super::Core;
+use crate::grid::Grid;
 use crate::held::Held;
-use crate::noted::Noted;
 use crate::seats::Seats;
+use ledger::Note;
 use shelf::Shelf;
 
-impl<S: Shelf> Core<S> {
-    // A shelf, and no job.
-    pub fn blank(shelf: S) -> Core<S>
+impl<M, S: Shelf> Core<M, S> {
+    // A mode system, a shelf, and no job.
+    pub fn blank(system: M, shelf: S) -> Core<M, S>
         ensures made { words_on S.Shelf.words result ≡ S.Shelf.words shelf }
     {
         Core {
+            system,
             shelf,
             seats: Seats::new(),
             held: Held::new(),
-            noted: Noted::new(),
+            noted: Grid::filled(Note::Nothing),
         }
     }
 
@@ -34,7 +36,7 @@ impl<S: Shelf> Core<S> {
     {
         self.seats = Seats::new();
         self.held = Held::new();
-        self.noted = Noted::new();
+        self.noted = Grid::filled(Note::Nothing);
         for (place, word) in words.iter().enumerate() {
             let _ = self.shelf.put(place, *word);
         }

@@ -8,42 +8,34 @@ ghost use Rattle.ledger.specs.Ledgers.{attempt};
 ghost use Rattle.ledger.specs.Models.{carried, model_hands, try};
 ghost use Rattle.tables.specs.Seats.{slot, status_of};
 ghost use Rattle.tables.specs.Turns.{layout, told};
-ghost use Rattle.tables.specs.Views.{model};
+ghost use Rattle.tables.specs.Views.{model, numbers_of, states_of};
 
 use super::Core;
 use super::walks::Walker;
 use crate::slot::Event;
-use crate::turn::Turn;
 use granules::Tree;
 use modes::system::ModeSystem;
 use operations::{Operation, Outcome, carry_out};
 use shelf::Shelf;
 
-impl<S: Shelf> Core<S> {
+impl<M: ModeSystem, S: Shelf> Core<M, S> {
     // A job takes the locks for an operation, and is then working; or it waits with it. Whether it has them.
-    fn attempt<M: ModeSystem>(
-        &mut self,
-        system: &M,
-        tree: &Tree,
-        job: u32,
-        operation: Operation,
-    ) -> bool
-        requires seated { slot self.old.seats.numbers job < 16 }
-        requires opened { is_open (status_of self.old.seats.numbers self.old.seats.states job) ≡ true }
+    fn attempt(&mut self, tree: &Tree, job: u32, operation: Operation) -> bool
+        requires seated { slot (numbers_of self.old.seats) job < 16 }
+        requires opened { is_open (status_of (numbers_of self.old.seats) (states_of self.old.seats) job) ≡ true }
         requires near { operation.granule < 256 }
         ensures attempt { attempt model_hands (layout M.ModeSystem.meaning tree.now) job operation (model S.Shelf.words self.old) ≡ record { left = model S.Shelf.words self.new; complete = result } }
-        ensures numbers { self.new.seats.numbers ≡ self.old.seats.numbers }
+        ensures numbers { (numbers_of self.new.seats) ≡ (numbers_of self.old.seats) }
     {
-        let goal = operation.granule as usize;
         let walker = Walker {
             job,
             kind: operation.action.kind(),
-            goal,
+            goal: operation.granule as u8,
         };
-        let path = tree.path(goal);
-        let slot = self.seats.slot_of(job);
-        let complete = self.walk(system, walker, &path);
-        self.seats.turn(slot, Event::of_walk(operation, complete));
+        let path = tree.path(walker.goal as usize);
+        let seat = self.seats.seat(job);
+        let complete = self.walk(walker, &path);
+        self.seats.turn(seat, Event::of_walk(operation, complete));
         complete
     }
 
@@ -60,31 +52,25 @@ impl<S: Shelf> Core<S> {
 
     // Carries an operation of a job out, and notes what is changed so that it can be taken back.
     fn carry(&mut self, tree: &Tree, job: u32, operation: Operation) -> Outcome
-        requires { slot self.old.seats.numbers job < 16 }
+        requires { slot (numbers_of self.old.seats) job < 16 }
         ensures value { result ≡ answer (table tree.now) operation (S.Shelf.words self.old.shelf) }
         ensures model { (s : System) → model S.Shelf.words self.new ≡ carried (layout s tree.now) job operation (model S.Shelf.words self.old) }
     {
-        let slot = self.seats.slot_of(job);
-        self.noted.note(tree, &self.shelf, slot, operation);
+        let seat = self.seats.seat(job);
+        self.noted.note(tree, &self.shelf, seat, operation);
         self.work(tree, operation)
     }
 
     // A job's operation: carried out if it gets the locks, else it waits.
-    pub(super) fn try_out<M: ModeSystem>(
-        &mut self,
-        system: &M,
-        tree: &Tree,
-        job: u32,
-        operation: Operation,
-    ) -> Turn<Outcome>
-        requires seated { slot self.old.seats.numbers job < 16 }
-        requires opened { is_open (status_of self.old.seats.numbers self.old.seats.states job) ≡ true }
+    pub(super) fn try_out(&mut self, tree: &Tree, job: u32, operation: Operation) -> Option<Outcome>
+        requires seated { slot (numbers_of self.old.seats) job < 16 }
+        requires opened { is_open (status_of (numbers_of self.old.seats) (states_of self.old.seats) job) ≡ true }
         requires near { operation.granule < 256 }
-        ensures served { try (layout M.ModeSystem.meaning tree.now) job operation (model S.Shelf.words self.old) ≡ record { left = model S.Shelf.words self.new; said = told result } }
+        ensures served { try (layout M.ModeSystem.meaning tree.now) job operation (model S.Shelf.words self.old) ≡ record { left = model S.Shelf.words self.new; said = told (λ o. o) result } }
     {
-        if !self.attempt(system, tree, job, operation) {
-            return Turn::Stopped;
+        if !self.attempt(tree, job, operation) {
+            return None;
         }
-        Turn::Through(self.carry(tree, job, operation))
+        Some(self.carry(tree, job, operation))
     }
 }

@@ -4,11 +4,12 @@ ghost use Rattle.granules.specs.Trees.{steps};
 ghost use Rattle.ledger.specs.Jobs.{raise};
 ghost use Rattle.ledger.specs.Models.{model_hands};
 ghost use Rattle.tables.specs.Seats.{slot};
-ghost use Rattle.tables.specs.Views.{model, jobs_of};
+ghost use Rattle.tables.specs.Views.{model, jobs_of, numbers_of};
 ghost use Rattle.ledger.specs.Walks.{target};
 ghost use Rattle.tables.specs.Steps.{walk_on, after_step};
 
 use super::Core;
+use crate::claim::Claim;
 use granules::Path;
 use modes::kind::Kind;
 use modes::system::ModeSystem;
@@ -19,7 +20,7 @@ use shelf::Shelf;
 pub struct Walker {
     pub job: u32,
     pub kind: Kind,
-    pub goal: usize,
+    pub goal: u8,
 }
 
 // What comes of one granule of a walk: all beneath is covered and the walk complete, it goes on below, or an older job
@@ -33,7 +34,7 @@ pub enum Step {
 
 impl Walker {
     // The mode that is wanted on a granule of the path, by a job that has a mode there.
-    fn target<M: ModeSystem>(self, system: &M, granule: usize, mode: u8) -> u8
+    fn target<M: ModeSystem>(self, system: &M, granule: u8, mode: u8) -> u8
         ensures value { result ≡ target M.ModeSystem.meaning self.kind self.goal granule mode }
     {
         let part = if granule == self.goal {
@@ -45,38 +46,41 @@ impl Walker {
     }
 }
 
-impl<S: Shelf> Core<S> {
+impl<M: ModeSystem, S: Shelf> Core<M, S> {
     // A job's mode on a granule raised.
-    fn raise(&mut self, job: u32, granule: usize, mode: u8)
-        requires seated { slot self.old.seats.numbers job < 16 }
-        requires granule { granule < 256 }
+    fn raise(&mut self, job: u32, granule: u8, mode: u8)
+        requires seated { slot (numbers_of self.old.seats) job < 16 }
         requires mode { mode < 16 }
         ensures model { model S.Shelf.words self.new ≡ model_hands.with_jobs (raise job granule mode (jobs_of self.old.seats self.old.held)) (model S.Shelf.words self.old) }
-        ensures numbers { self.new.seats.numbers ≡ self.old.seats.numbers }
+        ensures numbers { (numbers_of self.new.seats) ≡ (numbers_of self.old.seats) }
     {
-        let slot = self.seats.slot_of(job);
-        self.held.put(slot, granule, mode);
+        let seat = self.seats.seat(job);
+        self.held.put(seat, granule, mode);
     }
 
     // One granule of a walk: whoever is younger and in the way is wounded, and the mode is raised unless somebody older
     // is in the way.
-    fn step<M: ModeSystem>(&mut self, system: &M, walker: Walker, granule: usize) -> Step
-        requires seated { slot self.old.seats.numbers walker.job < 16 }
-        requires granule { granule < 256 }
+    fn step(&mut self, walker: Walker, granule: u8) -> Step
+        requires { slot (numbers_of self.old.seats) walker.job < 16 }
         ensures walk { (xs : List ℕ) → walk_on M.ModeSystem.meaning walker (granule ∷ xs) (model S.Shelf.words self.old) ≡ after_step M.ModeSystem.meaning walker result xs (model S.Shelf.words self.new) }
-        ensures numbers { self.new.seats.numbers ≡ self.old.seats.numbers }
+        ensures numbers { (numbers_of self.new.seats) ≡ (numbers_of self.old.seats) }
     {
-        let slot = self.seats.slot_of(walker.job);
-        let mode = self.held.get(slot, granule);
-        let full = system.full(walker.kind);
-        if system.join(mode, full) == mode {
+        let seat = self.seats.seat(walker.job);
+        let mode = self.held.get(seat, granule);
+        let full = self.system.full(walker.kind);
+        if self.system.join(mode, full) == mode {
             return Step::Covered;
         }
-        let target = walker.target(system, granule, mode);
+        let target = walker.target(&self.system, granule, mode);
         if target == mode {
             return Step::On;
         }
-        if self.make_way(system, walker.job, granule, target) {
+        let claim = Claim {
+            asker: walker.job,
+            granule,
+            target,
+        };
+        if self.make_way(claim) {
             return Step::Stopped;
         }
         self.raise(walker.job, granule, target);
@@ -84,13 +88,13 @@ impl<S: Shelf> Core<S> {
     }
 
     // The locks along a path; whether all were had.
-    pub(crate) fn walk<M: ModeSystem>(&mut self, system: &M, walker: Walker, path: &Path) -> bool
-        requires { slot self.old.seats.numbers walker.job < 16 }
+    pub(crate) fn walk(&mut self, walker: Walker, path: &Path) -> bool
+        requires { slot (numbers_of self.old.seats) walker.job < 16 }
         ensures walk { walk_on M.ModeSystem.meaning walker (steps path.now) (model S.Shelf.words self.old) ≡ record { left = model S.Shelf.words self.new; complete = result } }
-        ensures numbers { self.new.seats.numbers ≡ self.old.seats.numbers }
+        ensures numbers { (numbers_of self.new.seats) ≡ (numbers_of self.old.seats) }
     {
         for place in 0..path.len() {
-            match self.step(system, walker, path.at(place)) {
+            match self.step(walker, path.at(place) as u8) {
                 Step::Covered => return true,
                 Step::Stopped => return false,
                 Step::On => {}

@@ -1,19 +1,27 @@
 // Questions to the seats.
-ghost use Rattle.std.specs.Prelude.{◌≡◌, ◌<◌, ◌≤◌, slice_index};
-ghost use Rattle.tables.specs.Seats.{nearer, next_above, place, slot, status_of};
+ghost use Rattle.std.specs.Prelude.{◌≡◌, ◌<◌, filter_map, min, position, slice_index};
+ghost use Rattle.std.specs.List.{reduce};
+ghost use Rattle.std.specs.Option.{option_map};
+ghost use Rattle.tables.specs.Seats.{above, given, has, next_above, place, seated, slot, status_of};
+ghost use Rattle.tables.specs.Views.{numbers_of, states_of};
 
 use super::Seats;
+use crate::seat::Seat;
+use crate::slot::Slot;
 use ledger::Status;
 
-// The better of a number so far, 0 for none, and another: the smaller of those above `than`.
-fn nearer(than: u32, best: u32, number: u32) -> u32
-    ensures value { result ≡ nearer than best number }
+// Whether the job in a slot has this number; or none, that the slot is free.
+fn has(number: Option<u32>, slot: &Option<Slot>) -> bool
+    ensures value { result ≡ has number slot.now }
 {
-    if than < number && (best == 0 || number < best) {
-        number
-    } else {
-        best
-    }
+    slot.map(|job| job.number) == number
+}
+
+// The number of the job in a slot, if it is above another.
+fn above(number: u32, slot: &Option<Slot>) -> Option<u32>
+    ensures value { result ≡ above number slot.now }
+{
+    slot.map(|job| job.number).filter(|job| *job > number)
 }
 
 impl Seats {
@@ -24,67 +32,72 @@ impl Seats {
         self.opened
     }
 
-    // The first slot that has a number, or 16.
-    fn place(&self, number: u32) -> usize
-        ensures value { result ≡ place self.now.numbers number }
-        ensures bound { result ≤ 16 }
+    // The first slot whose job has this number; or for none, the first that is free.
+    fn place(&self, number: Option<u32>) -> Option<usize>
+        ensures value { result ≡ position (has number) self.now.slots }
     {
-        for s in 0..16 {
-            if self.numbers[s] == number {
-                return s;
-            }
-        }
-        16
+        self.slots.iter().position(|slot| has(number, slot))
     }
 
-    // The first free slot, or 16.
-    pub fn free_slot(&self) -> usize
-        ensures value { result ≡ place self.now.numbers 0 }
-        ensures bound { result ≤ 16 }
+    // That slot as a seat.
+    fn find(&self, number: Option<u32>) -> Option<Seat>
+        ensures value { option_map (λ s. s.slot) result ≡ position (has number) self.now.slots }
     {
-        self.place(0)
+        let slot = self.place(number)?;
+        Some(Seat { slot })
     }
 
-    // The slot of a job, or 16.
-    pub fn slot_of(&self, number: u32) -> usize
-        ensures value { result ≡ slot self.now.numbers number }
-        ensures bound { result ≤ 16 }
+    // The first free slot.
+    pub(crate) fn free_seat(&self) -> Option<Seat>
+        ensures value { option_map (λ s. s.slot) result ≡ seated (place (numbers_of self.now) 0) }
     {
-        if number == 0 {
-            return 16;
-        }
-        self.place(number)
+        self.find(None)
     }
 
-    // The number in a slot; 0 if it is free or no slot.
-    pub fn number(&self, slot: usize) -> u32
-        ensures value { result ≡ slice_index self.now.numbers slot }
+    // The slot of a job.
+    pub(crate) fn seat_of(&self, job: u32) -> Option<Seat>
+        ensures value { option_map (λ s. s.slot) result ≡ seated (slot (numbers_of self.now) job) }
     {
-        if slot >= 16 {
-            return 0;
+        self.find(Some(job))
+    }
+
+    // The slot of a job that has one.
+    pub(crate) fn seat(&self, job: u32) -> Seat
+        requires { slot (numbers_of self.now) job < 16 }
+        ensures value { result.slot ≡ slot (numbers_of self.now) job }
+    {
+        match self.seat_of(job) {
+            Some(seat) => seat,
+            None => unreachable(),
         }
-        self.numbers[slot]
+    }
+
+    // The number of the job in a slot.
+    pub(crate) fn number(&self, seat: Seat) -> Option<u32>
+        ensures value { result ≡ given (slice_index (numbers_of self.now) seat.slot) }
+    {
+        self.slots[seat.slot].map(|job| job.number)
     }
 
     // The state of a job.
-    pub fn status(&self, number: u32) -> Status
-        ensures value { result ≡ status_of self.now.numbers self.now.states number }
+    pub fn status(&self, job: u32) -> Status
+        ensures value { result ≡ status_of (numbers_of self.now) (states_of self.now) job }
     {
-        let slot = self.slot_of(number);
-        if slot >= 16 {
-            return Status::Ended;
-        }
-        self.states[slot]
+        let job = self.seat_of(job).and_then(|seat| self.slots[seat.slot]);
+        job.map_or(Status::Ended, |job| job.state)
     }
 
-    // The oldest job that is younger than a number, or 0.
-    pub fn next_above(&self, number: u32) -> u32
-        ensures value { result ≡ next_above number self.now.numbers }
+    // The least number above another.
+    fn least_above(&self, number: u32) -> Option<u32>
+        ensures value { result ≡ reduce min (filter_map (above number) self.now.slots) }
     {
-        let mut best = 0;
-        for s in 0..16 {
-            best = nearer(number, best, self.numbers[s]);
-        }
-        best
+        self.slots.iter().filter_map(|slot| above(number, slot)).min()
+    }
+
+    // The oldest job that is younger than a number.
+    pub fn next_above(&self, number: u32) -> Option<u32>
+        ensures value { result ≡ given (next_above number (numbers_of self.now)) }
+    {
+        self.least_above(number)
     }
 }

@@ -1,36 +1,26 @@
 // Taking a seat, moving on, and leaving.
-ghost use Rattle.std.specs.Prelude.{◌≡◌, ◌+◌, ◌<◌, true, replicate, slice_index, slice_index_or, slice_set};
+ghost use Rattle.std.specs.Prelude.{◌≡◌, ◌+◌, ◌<◌, true, None, replicate, slice_index, slice_index_or, slice_set};
 ghost use Rattle.ledger.specs.declared.job.Status.TheVariants.{Working, Ended};
-ghost use Rattle.tables.specs.Slots.{moved, in_seat};
+ghost use Rattle.tables.specs.Slots.{moved, near};
+ghost use Rattle.tables.specs.Seats.{after};
+ghost use Rattle.tables.specs.Views.{numbers_of, states_of};
 
 use super::Seats;
+use crate::seat::Seat;
 use crate::slot::{Event, Slot};
 use ledger::Status;
 
 impl Seats {
     // All slots are free, and no number was given.
     pub fn new() -> Seats
-        ensures numbers { result.numbers ≡ replicate 16 0 }
-        ensures states { result.states ≡ replicate 16 Ended }
+        ensures numbers { numbers_of result ≡ replicate 16 0 }
+        ensures states { states_of result ≡ replicate 16 Ended }
         ensures opened { result.opened ≡ 0 }
     {
         Seats {
-            numbers: [0; 16],
-            states: [Status::Ended; 16],
+            slots: [None; 16],
             opened: 0,
         }
-    }
-
-    // The state that follows on an event in a slot.
-    fn next(&self, slot: usize, event: Event) -> Status
-        requires { slot < 16 }
-        ensures value { result ≡ moved (slice_index_or self.now.states slot Ended) event }
-    {
-        let mut job = Slot {
-            state: self.states[slot],
-        };
-        job.meet(event);
-        job.state
     }
 
     // The number that the next job gets.
@@ -42,39 +32,46 @@ impl Seats {
     }
 
     // The next number sits down in a free slot, working.
-    pub(crate) fn sit(&mut self, slot: usize)
-        requires within { slot < 16 }
-        requires vacant { slice_index self.old.numbers slot ≡ 0 }
+    pub(crate) fn sit(&mut self, seat: Seat)
+        requires vacant { slice_index (numbers_of self.old) seat.slot ≡ 0 }
         requires left { self.old.opened < 1000000 }
-        ensures numbers { self.new.numbers ≡ slice_set self.old.numbers slot (self.old.opened + 1) }
-        ensures states { self.new.states ≡ slice_set self.old.states slot Working }
+        ensures numbers { numbers_of self.new ≡ slice_set (numbers_of self.old) seat.slot (self.old.opened + 1) }
+        ensures states { states_of self.new ≡ slice_set (states_of self.old) seat.slot Working }
         ensures opened { self.new.opened ≡ self.old.opened + 1 }
     {
         let number = self.next_number();
-        self.states[slot] = self.next(slot, Event::Open);
-        self.numbers[slot] = number;
+        self.slots[seat.slot] = Some(Slot {
+            number,
+            state: Status::Working,
+        });
         self.opened = number;
     }
 
+    // The job in a slot after something has happened to it.
+    fn after(&self, seat: Seat, event: Event) -> Option<Slot>
+        ensures value { result ≡ after event (slice_index_or self.now.slots seat.slot None) }
+    {
+        let mut job = self.slots[seat.slot]?;
+        job.meet(event);
+        Some(job)
+    }
+
     // Something happens to the job in a slot, which keeps its seat.
-    pub(crate) fn turn(&mut self, slot: usize, event: Event)
-        requires within { slot < 16 }
-        requires stays { in_seat event ≡ true }
-        ensures numbers { self.new.numbers ≡ self.old.numbers }
-        ensures states { self.new.states ≡ slice_set self.old.states slot (moved (slice_index_or self.old.states slot Ended) event) }
+    pub(crate) fn turn(&mut self, seat: Seat, event: Event)
+        requires { near event ≡ true }
+        ensures numbers { numbers_of self.new ≡ numbers_of self.old }
+        ensures states { states_of self.new ≡ slice_set (states_of self.old) seat.slot (moved (slice_index_or (states_of self.old) seat.slot Ended) event) }
         ensures opened { self.new.opened ≡ self.old.opened }
     {
-        self.states[slot] = self.next(slot, event);
+        self.slots[seat.slot] = self.after(seat, event);
     }
 
     // The job in a slot ends, and the slot is free again.
-    pub(crate) fn leave(&mut self, slot: usize)
-        requires { slot < 16 }
-        ensures numbers { self.new.numbers ≡ slice_set self.old.numbers slot 0 }
-        ensures states { self.new.states ≡ slice_set self.old.states slot Ended }
+    pub(crate) fn leave(&mut self, seat: Seat)
+        ensures numbers { numbers_of self.new ≡ slice_set (numbers_of self.old) seat.slot 0 }
+        ensures states { states_of self.new ≡ slice_set (states_of self.old) seat.slot Ended }
         ensures opened { self.new.opened ≡ self.old.opened }
     {
-        self.states[slot] = self.next(slot, Event::End);
-        self.numbers[slot] = 0;
+        self.slots[seat.slot] = None;
     }
 }

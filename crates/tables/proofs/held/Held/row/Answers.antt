@@ -16,5 +16,5 @@ pub invariant_of-result : goal.invariant_of-result
 invariant_of-result g c =
     let t = c.args.self.now in
     record {
-      full = long_at 16 t.counts c.args.granule (omega (arith, t.counted.0, c.requires)) t.counted.1;
+      full = long_at 16 t.counts c.args.granule (omega (arith, t.counted.0, c.ranges.granule.fits)) t.counted.1;
     }

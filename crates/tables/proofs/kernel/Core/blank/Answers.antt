@@ -6,6 +6,6 @@ use Rattle.tables.proofs.kernel.Core.blank.Goals as goal
 pub invariant_of-result : goal.invariant_of-result
 invariant_of-result g c =
     record {
-      unlocked = λ i x free. nothing_held c.new-2.result.rows c.new-2.ensures.rows i x;
-      unnoted = λ i x free. ap is_nothing (nothing_noted c.new-3.result.rows c.new-3.ensures.rows i x);
+      unlocked = λ i x free. nothing_held c.new-2.result.modes.rows c.new-2.ensures.rows i x;
+      unnoted = λ i x free. ap is_nothing (nothing_noted c.filled.result.rows c.filled.ensures.rows i x);
     }

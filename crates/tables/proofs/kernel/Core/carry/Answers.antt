@@ -3,7 +3,7 @@ use Rattle.granules.specs.Trees.{table}
 use Rattle.ledger.specs.declared.job.Note.{Note}
 use Rattle.ledger.specs.declared.job.Note.TheVariants.{Nothing}
 use Rattle.tables.specs.declared.held.Held.{Held}
-use Rattle.tables.specs.declared.noted.Noted.{Noted}
+use Rattle.tables.specs.declared.grid.Grid.{Grid}
 use Rattle.tables.specs.declared.seats.Seats.{Seats}
 use Rattle.tables.specs.Views.{whole}
 use Rattle.tables.specs.Grids.{cell, is_nothing}
@@ -20,21 +20,21 @@ invariant_of-self g c =
       unnoted = λ i x free.
           ap (λ (rows : List (List Note)). is_nothing (cell Nothing rows i x)) c.note.ensures.others
           ∙ ap is_nothing
-          (other_cell Nothing t.noted.rows _ _ i x (λ e. not_free t.seats c.args.job i c.requires free (e ∙ c.slot_of-slot.ensures.value)))
+          (other_cell Nothing t.noted.rows _ _ i x (λ e. not_free t.seats c.args.job i c.requires free (e ∙ c.seat-seat.ensures.value)))
           ∙ t.unnoted i x free;
     }
 
 pub returns : goal.returns
 returns g c =
     let t = c.args.self.now in
-    let here = sym c.slot_of-slot.ensures.value in
+    let here = sym c.seat-seat.ensures.value in
     let left = c.work.new.self in
     record {
       value = c.work.ensures.value;
       model =
           λ s.
           ap (λ (n : Seats). whole (g.S.Shelf.words left.shelf) n left.held left.noted) c.work.ensures.seats
-          ∙ ap₂ (λ (h : Held) (n : Noted). whole (g.S.Shelf.words left.shelf) t.seats h n) c.work.ensures.held c.work.ensures.noted
+          ∙ ap₂ (λ (h : Held) (n : (Grid Note)). whole (g.S.Shelf.words left.shelf) t.seats h n) c.work.ensures.held c.work.ensures.noted
           ∙ carry_view s (table c.args.tree.now) (g.S.Shelf.words t.shelf) (g.S.Shelf.words left.shelf) t.seats t.held t.noted c.note.new.self
           c.args.job c.args.operation c.requires (rw here c.note.ensures.others) (rw here c.note.ensures.notes) c.work.ensures.after;
     }

@@ -1,4 +1,4 @@
-use Rattle.std.proofs.Common.{sum, ap, ◌∙◌}
+use Rattle.std.proofs.Common.{sum, ap, ◌∙◌, arith}
 use Rattle.tables.proofs.Heads.{group_agrees, holders_agree}
 use Rattle.tables.proofs.kernel.Core.head.Goals as goal
 
@@ -10,9 +10,9 @@ returns g c =
           c.group.ensures.value
           ∙ c.of-head.ensures.group
           ∙ c.row.ensures.group
-          ∙ group_agrees t c.args.granule c.requires g.M.ModeSystem.meaning g.met.M.ModeSystem.lawful;
+          ∙ group_agrees t c.args.granule (omega (arith, c.ranges.granule.fits)) g.M.ModeSystem.meaning g.met.M.ModeSystem.lawful;
       holders =
           c.holders.ensures.value
           ∙ ap sum (c.of-head.ensures.counts ∙ c.row.ensures.counts)
-          ∙ holders_agree t c.args.granule c.requires;
+          ∙ holders_agree t c.args.granule (omega (arith, c.ranges.granule.fits));
     }

@@ -6,32 +6,32 @@ use Rattle.tables.specs.Meetings.{holds_up_at}
 use Rattle.tables.proofs.Meetings.{held_up, not_held_up}
 use Rattle.tables.proofs.kernel.Core.is_held_up.Goals as goal
 
-pub returns-then-holds_up_at : goal.returns-then-holds_up_at
-returns-then-holds_up_at g c =
+pub returns-then-holds_up : goal.returns-then-holds_up
+returns-then-holds_up g c =
     record {
       value =
           sym
-          (held_up g.M.ModeSystem.meaning g.met.M.ModeSystem.lawful g.S.Shelf.words c.args.self.now c.args.asker c.args.granule c.args.target
-          c.loop-slot.slot (omega arith) (sym c.if-holds_up_at.ensures.value));
+          (held_up g.M.ModeSystem.meaning g.met.M.ModeSystem.lawful g.S.Shelf.words c.args.self.now c.args.claim.asker c.args.claim.granule c.args.claim.target
+          c.loop-slot.slot (omega arith) (sym c.if-holds_up.ensures.value));
     }
 
 pub loop-slot-preserved : goal.loop-slot-preserved
 loop-slot-preserved g c =
     let here : ℕ → Bool =
-    holds_up_at g.M.ModeSystem.meaning c.args.self.now.seats c.args.self.now.held c.args.asker c.args.granule c.args.target
+    holds_up_at g.M.ModeSystem.meaning c.args.self.now.seats c.args.self.now.held c.args.claim.asker c.args.claim.granule c.args.claim.target
     in
     some_more c.loop-slot.slot here
-    ∙ or_from (some_below c.loop-slot.slot here) (here c.loop-slot.slot) c.loop-slot.invariant (sym c.if-holds_up_at.ensures.value)
+    ∙ or_from (some_below c.loop-slot.slot here) (here c.loop-slot.slot) c.loop-slot.invariant (sym c.if-holds_up.ensures.value)
 
 pub returns : goal.returns
 returns g c =
     let last : c.loop-slot.slot ≡ 16 = omega arith in
     let here : ℕ → Bool =
-    holds_up_at g.M.ModeSystem.meaning c.args.self.now.seats c.args.self.now.held c.args.asker c.args.granule c.args.target
+    holds_up_at g.M.ModeSystem.meaning c.args.self.now.seats c.args.self.now.held c.args.claim.asker c.args.claim.granule c.args.claim.target
     in
     record {
       value =
           sym
-          (not_held_up g.M.ModeSystem.meaning g.met.M.ModeSystem.lawful g.S.Shelf.words c.args.self.now c.args.asker c.args.granule c.args.target
+          (not_held_up g.M.ModeSystem.meaning g.met.M.ModeSystem.lawful g.S.Shelf.words c.args.self.now c.args.claim.asker c.args.claim.granule c.args.claim.target
           (ap (λ (n : ℕ). some_below n here) (sym last) ∙ c.loop-slot.invariant));
     }

@@ -1,8 +1,10 @@
 use Rattle.std.proofs.Common.{ℕ, List, get_or, set, ap, ◌∙◌}
 use Rattle.std.proofs.lemmas.List.{take_all}
 use Rattle.tables.specs.declared.held.Held.{Held}
-use Rattle.tables.specs.declared.noted.Noted.{Noted}
+use Rattle.tables.specs.declared.grid.Grid.{Grid}
 use Rattle.tables.specs.declared.seats.Seats.{Seats}
+use Rattle.ledger.specs.declared.job.Note.{Note}
+use Rattle.tables.specs.Views.{states_of}
 use Rattle.tables.specs.Grids.{is_nothing}
 use Rattle.tables.specs.Views.{over}
 use Rattle.ledger.specs.Models.{fresh}
@@ -12,8 +14,8 @@ use Rattle.tables.proofs.kernel.Core.lay.Goals as goal
 pub invariant_of-self : goal.invariant_of-self
 invariant_of-self g c =
     record {
-      unlocked = λ i x free. nothing_held c.new-self-2.result.rows c.new-self-2.ensures.rows i x;
-      unnoted = λ i x free. ap is_nothing (nothing_noted c.new-self-3.result.rows c.new-self-3.ensures.rows i x);
+      unlocked = λ i x free. nothing_held c.new-self-2.result.modes.rows c.new-self-2.ensures.rows i x;
+      unnoted = λ i x free. ap is_nothing (nothing_noted c.filled-self.result.rows c.filled-self.ensures.rows i x);
     }
 
 pub loop-place-preserved : goal.loop-place-preserved
@@ -37,8 +39,8 @@ returns g c =
     let ws = g.S.Shelf.words c.args.self.now.shelf in
     record {
       model =
-          blank_view (g.S.Shelf.words t.shelf) t.seats t.held t.noted (ap (λ (s : Seats). s.states) inv.1 ∙ c.new-self.ensures.states)
-          (ap (λ (s : Seats). s.opened) inv.1 ∙ c.new-self.ensures.opened) (ap (λ (h : Held). h.rows) inv.2 ∙ c.new-self-2.ensures.rows)
-          (ap (λ (n : Noted). n.rows) inv.3 ∙ c.new-self-3.ensures.rows)
+          blank_view (g.S.Shelf.words t.shelf) t.seats t.held t.noted (ap states_of inv.1 ∙ c.new-self.ensures.states)
+          (ap (λ (s : Seats). s.opened) inv.1 ∙ c.new-self.ensures.opened) (ap (λ (h : Held). h.modes.rows) inv.2 ∙ c.new-self-2.ensures.rows)
+          (ap (λ (n : Grid Note). n.rows) inv.3 ∙ c.filled-self.ensures.rows)
           ∙ ap fresh (inv.0 ∙ ap (λ (xs : List ℕ). over xs ws) (take_all c.loop-place.place fs c.loop-place-test.false));
     }

@@ -1,3 +1,4 @@
+use Rattle.std.proofs.Common.{arith}
 use Rattle.std.proofs.Common.{◌≡◌, ℕ, true, sym, refl, ap, ◌∙◌}
 use Rattle.tables.specs.Views.{jobs_of}
 use Rattle.tables.proofs.Heads.{all_stand}
@@ -9,12 +10,12 @@ returns-then-stands g c =
     let s = g.M.ModeSystem.meaning in
     let law = g.met.M.ModeSystem.lawful in
     let t = c.args.self.now in
-    let stand : (k : ℕ) → s.stands ((jobs_of t.seats t.held).mode k c.args.granule) c.args.target ≡ true =
-    all_stand t c.args.granule c.requires s law c.args.target
-    (ap (λ (m : ℕ). s.stands m c.args.target) (sym c.row-row.ensures.group) ∙ sym c.if-stands.ensures.value)
+    let stand : (k : ℕ) → s.stands ((jobs_of t.seats t.held).mode k c.args.claim.granule) c.args.claim.target ≡ true =
+    all_stand t c.args.claim.granule (omega arith) s law c.args.claim.target
+    (ap (λ (m : ℕ). s.stands m c.args.claim.target) (sym c.row-row.ensures.group) ∙ sym c.if-stands.ensures.value)
     in
     record {
-      value = sym (nobody_older s law g.S.Shelf.words t c.args.asker c.args.granule c.args.target stand);
-      model = unhurt s law g.S.Shelf.words t c.args.asker c.args.granule c.args.target stand;
+      value = sym (nobody_older s law g.S.Shelf.words t c.args.claim.asker c.args.claim.granule c.args.claim.target stand);
+      model = unhurt s law g.S.Shelf.words t c.args.claim.asker c.args.claim.granule c.args.claim.target stand;
       numbers = refl;
     }

@@ -4,17 +4,22 @@ use Rattle.ledger.specs.declared.call.Answer.TheVariants.{Job}
 use Rattle.ledger.specs.declared.call.Call.TheVariants.{Open}
 use Rattle.ledger.specs.declared.refusal.Refusal.TheVariants.{TooManyJobs, NumbersUsedUp}
 use Rattle.ledger.specs.Models.{Model}
+use Rattle.std.specs.Option.{option_map}
+use Rattle.tables.specs.declared.seat.Seat.{Seat}
 use Rattle.tables.specs.Seats.{place}
-use Rattle.tables.specs.Views.{model, jobs_of}
+use Rattle.tables.specs.Views.{model, jobs_of, numbers_of}
 use Rattle.tables.proofs.Counts.{all_taken, one_free}
-use Rattle.tables.proofs.Places.{place_at}
+use Rattle.tables.proofs.Places.{place_at, place_bound}
+use Rattle.tables.proofs.Sitting.{numbers_full, seated_at, seated_none}
 use Rattle.tables.proofs.Table.{denied, admitted, open_full, open_spent, open_free}
 use Rattle.tables.proofs.kernel.Core.open.Goals as goal
 
-pub returns-then-slot-ge16 : goal.returns-then-slot-ge16
-returns-then-slot-ge16 g c =
+pub returns-in_default : goal.returns-in_default
+returns-in_default g c =
     let t = c.args.self.now in
-    let full : place t.seats.numbers 0 ≡ 16 = omega (arith, c.free_slot-slot.ensures.value, c.free_slot-slot.ensures.bound) in
+    let full : place (numbers_of t.seats) 0 ≡ 16 =
+    omega (arith, seated_none (place (numbers_of t.seats) 0) (ap (option_map (λ (s : Seat). s.slot)) (sym c.in_default.is) ∙ c.free_seat.ensures.value), place_bound (numbers_of t.seats) 0, numbers_full t.seats)
+    in
     record {
       served =
           λ y.
@@ -24,7 +29,7 @@ returns-then-slot-ge16 g c =
 pub returns-then-opened-ge1000000 : goal.returns-then-opened-ge1000000
 returns-then-opened-ge1000000 g c =
     let t = c.args.self.now in
-    let room : place t.seats.numbers 0 < 16 = omega (arith, c.free_slot-slot.ensures.value) in
+    let room : place (numbers_of t.seats) 0 < 16 = (seated_at (place (numbers_of t.seats) 0) c.in-Some.seat.slot (ap (option_map (λ (s : Seat). s.slot)) (sym c.in-Some.is) ∙ c.free_seat.ensures.value)).0 in
     record {
       served =
           λ y.
@@ -36,18 +41,18 @@ returns-then-opened-ge1000000 g c =
 pub seat-requires : goal.seat-requires
 seat-requires g c =
     let t = c.args.self.now.seats in
+    let here = seated_at (place (numbers_of t) 0) c.in-Some.seat.slot (ap (option_map (λ (s : Seat). s.slot)) (sym c.in-Some.is) ∙ c.free_seat.ensures.value) in
     record {
-      within = omega arith;
       vacant =
-          ap (λ (i : ℕ). get_or t.numbers i 0) c.free_slot-slot.ensures.value
-          ∙ place_at t.numbers 0 (omega (arith, c.free_slot-slot.ensures.value, t.full.0));
+          ap (λ (i : ℕ). get_or (numbers_of t) i 0) (sym here.1)
+          ∙ place_at (numbers_of t) 0 (omega (arith, here.0, numbers_full t));
       left = omega (arith, c.opened.ensures.value);
     }
 
 pub returns : goal.returns
 returns g c =
     let t = c.args.self.now in
-    let room : place t.seats.numbers 0 < 16 = omega (arith, c.free_slot-slot.ensures.value) in
+    let room : place (numbers_of t.seats) 0 < 16 = (seated_at (place (numbers_of t.seats) 0) c.in-Some.seat.slot (ap (option_map (λ (s : Seat). s.slot)) (sym c.in-Some.is) ∙ c.free_seat.ensures.value)).0 in
     record {
       served =
           λ y.

@@ -1,4 +1,4 @@
-use Rattle.std.proofs.Common.{ℕ, List, sym, refl, ap, ◌∙◌}
+use Rattle.std.proofs.Common.{ℕ, List, sym, refl, ap, ◌∙◌, arith}
 use Rattle.tables.specs.Grids.{cell}
 use Rattle.tables.proofs.Grids.{other_cell}
 use Rattle.tables.proofs.Raises.{raise_view}
@@ -11,7 +11,7 @@ invariant_of-self g c =
     record {
       unlocked = λ i x free.
           ap (λ (rows : List (List ℕ)). cell 0 rows i x) c.put.ensures.rows
-          ∙ other_cell 0 t.held.rows _ _ i x (λ e. not_free t.seats c.args.job i c.requires.seated free (e ∙ c.slot_of-slot.ensures.value))
+          ∙ other_cell 0 t.held.modes.rows _ _ i x (λ e. not_free t.seats c.args.job i c.requires.seated free (e ∙ c.seat-seat.ensures.value))
           ∙ t.unlocked i x free;
       unnoted = t.unnoted;
     }
@@ -19,10 +19,10 @@ invariant_of-self g c =
 pub returns : goal.returns
 returns g c =
     let t = c.args.self.now in
-    let here = sym c.slot_of-slot.ensures.value in
+    let here = sym c.seat-seat.ensures.value in
     record {
       model =
-          raise_view (g.S.Shelf.words t.shelf) t.seats t.held c.put.new.self t.noted c.args.job c.args.granule c.args.mode c.requires.seated c.requires.granule
+          raise_view (g.S.Shelf.words t.shelf) t.seats t.held c.put.new.self t.noted c.args.job c.args.granule c.args.mode c.requires.seated (omega (arith, c.ranges.granule.fits))
           (rw here c.put.ensures.rows);
       numbers = refl;
     }

@@ -1,7 +1,7 @@
 use Rattle.std.proofs.Common.{◌≡◌, ℕ, sym, ap, ◌∙◌}
 use Rattle.tables.specs.Grids.{cell}
 use Rattle.tables.specs.Seats.{slot}
-use Rattle.tables.specs.Views.{model}
+use Rattle.tables.specs.Views.{model, numbers_of}
 use Rattle.tables.proofs.Steps.{stopped, raised}
 use Rattle.tables.proofs.kernel.Core.step.Goals as goal
 use Rattle.tables.proofs.kernel.Core.step.Goals.{After-target-target, at-returns, at-returns-then-make_way}
@@ -9,9 +9,9 @@ use Rattle.tables.proofs.kernel.Core.step.Goals.{After-target-target, at-returns
 -- what is known once the target is: the mode that the job has, and that it is not enough
 has_mode :
     (g : _) (c : goal.After-target-target g)
-    → c.get-mode.result ≡ cell 0 c.args.self.now.held.rows (slot c.args.self.now.seats.numbers c.args.walker.job) c.args.granule
+    → c.get-mode.result ≡ cell 0 c.args.self.now.held.modes.rows (slot (numbers_of c.args.self.now.seats) c.args.walker.job) c.args.granule
 has_mode g c =
-    c.get-mode.ensures.value ∙ ap (λ (i : ℕ). cell 0 c.args.self.now.held.rows i c.args.granule) c.slot_of-slot.ensures.value
+    c.get-mode.ensures.value ∙ ap (λ (i : ℕ). cell 0 c.args.self.now.held.modes.rows i c.args.granule) c.seat-seat.ensures.value
 
 short :
     (g : _) (c : goal.After-target-target g)

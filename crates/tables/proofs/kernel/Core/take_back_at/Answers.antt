@@ -1,6 +1,7 @@
 use Rattle.std.proofs.Common.{get_or, set, sym, refl, ap, ◌∙◌}
 use Rattle.std.proofs.lemmas.List.{set-get_or, set_past}
 use Rattle.ledger.specs.declared.job.Note.{Note}
+use Rattle.ledger.specs.declared.job.Note.TheVariants.{Nothing}
 use Rattle.ledger.specs.Models.{back}
 use Rattle.tables.proofs.Words.{at_none}
 use Rattle.tables.proofs.kernel.Core.take_back_at.Goals as goal
@@ -12,7 +13,7 @@ returns-in-Nothing g c =
     record {
       words =
           sym
-          (ap (λ (n : Note). set ws c.args.place (back n word)) (sym c.in-Nothing.ensures.value)
+          (ap (λ (n : Note). set ws c.args.place (back n word)) (sym (c.in-Nothing.ensures.value Nothing))
           ∙ set-get_or ws c.args.place 0);
       seats = refl;
       held = refl;

@@ -1,38 +1,37 @@
-use Rattle.std.proofs.Common.{◌≡◌, ◌<◌, true, get_or, set, sym, ap, ◌∙◌, subst, arith, lit<}
-use Rattle.ledger.specs.declared.job.Status.{Status}
-use Rattle.ledger.specs.declared.job.Status.TheVariants.{Ended}
-use Rattle.ledger.specs.Jobs.{is_ended}
-use Rattle.ledger.specs.Ledgers.{wanted}
-use Rattle.std.proofs.lemmas.List.{length-set}
-use Rattle.std.proofs.lemmas.Bool.{eq-eqb, ne_eqb}
-use Rattle.tables.proofs.Places.{distinct_new, given_set, given_more}
-use Rattle.tables.proofs.Slots.{opens, free_set, near_set}
+use Rattle.std.proofs.Common.{◌≡◌, ℕ, ◌<◌, true, set, Option, Some, length, ap, ◌∙◌, refl, arith}
+use Rattle.std.proofs.lemmas.List.{length-set, map-set}
+use Rattle.std.proofs.lemmas.Bool.{and_from, ne_eqb}
+use Rattle.ledger.specs.declared.job.Status.TheVariants.{Working}
+use Rattle.tables.specs.declared.slot.Slot.{Slot}
+use Rattle.tables.specs.Seats.{distinct, all_given, number_in, proper, state_in}
+use Rattle.tables.specs.Views.{numbers_of, states_of}
+use Rattle.tables.proofs.Places.{distinct_new, given_more, given_set}
+use Rattle.tables.proofs.Sitting.{each_set, working_proper}
 use Rattle.tables.proofs.seats.Seats.sit.Goals as goal
 
 pub invariant_of-self : goal.invariant_of-self
 invariant_of-self c =
     let t = c.args.self.now in
-    let ended : is_ended (get_or t.states c.args.slot Ended) ≡ true =
-    sym (t.free c.args.slot) ∙ eq-eqb (get_or t.numbers c.args.slot 0) 0 c.requires.vacant
-    in
+    let n = c.next_number-number.result in
+    let i = c.args.seat.slot in
+    let above : t.opened < n = omega (arith, c.next_number-number.ensures.value) in
+    let o : Option Slot = Some (record { number = n; state = Working }) in
+    let is = map-set number_in t.slots i o in
     record {
-      full = (length-set t.numbers _ _ ∙ t.full.0, length-set t.states _ _ ∙ t.full.1);
-      apart = distinct_new t.opened t.numbers _ _ (omega (arith, c.next_number-number.ensures.value)) t.known t.apart;
-      known = given_set _ t.numbers _ _ (omega arith) (given_more t.opened _ t.numbers (omega (arith, c.next_number-number.ensures.value)) t.known);
-      free = free_set t.numbers t.states _ _ _ (omega (arith, t.full.0, c.requires.within)) (omega (arith, t.full.1, c.requires.within)) t.free
-          (ne_eqb _ 0 (λ (z : _ ≡ 0). omega (arith, c.next_number-number.ensures.value)) ∙ sym (ap is_ended (c.next.ensures.value ∙ opens (get_or t.states c.args.slot Ended) ended)));
-      near = near_set t.states _ _ (omega (arith, t.full.1, c.requires.within)) t.near
-          (subst (λ (x : Status). (wanted x).granule < 256) (sym (c.next.ensures.value ∙ opens (get_or t.states c.args.slot Ended) ended)) (lit< tt));
+      full = length-set t.slots i o ∙ t.full;
+      apart = ap distinct is ∙ distinct_new t.opened (numbers_of t) i n above t.known t.apart;
+      known = ap (all_given n) is ∙ given_set n (numbers_of t) i n (omega arith) (given_more t.opened n (numbers_of t) (omega (arith, above)) t.known);
+      proper = each_set t.slots i o (omega (arith, t.full, c.args.seat.within)) (working_proper n (omega (arith, above))) t.proper;
     }
 
 pub returns : goal.returns
 returns c =
     let t = c.args.self.now in
-    let ended : is_ended (get_or t.states c.args.slot Ended) ≡ true =
-    sym (t.free c.args.slot) ∙ eq-eqb (get_or t.numbers c.args.slot 0) 0 c.requires.vacant
-    in
+    let n = c.next_number-number.result in
+    let i = c.args.seat.slot in
+    let o : Option Slot = Some (record { number = n; state = Working }) in
     record {
-      numbers = ap (set t.numbers c.args.slot) c.next_number-number.ensures.value;
-      states = ap (set t.states c.args.slot) (c.next.ensures.value ∙ opens (get_or t.states c.args.slot Ended) ended);
+      numbers = map-set number_in t.slots i o ∙ ap (set (numbers_of t) i) c.next_number-number.ensures.value;
+      states = map-set state_in t.slots i o;
       opened = c.next_number-number.ensures.value;
     }

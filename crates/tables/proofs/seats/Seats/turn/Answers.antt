@@ -1,22 +1,37 @@
-use Rattle.std.proofs.Common.{◌<◌, get_or, sym, ap, ◌∙◌, subst, arith}
-use Rattle.ledger.specs.declared.job.Status.TheVariants.{Ended}
+use Rattle.std.proofs.Common.{◌≡◌, None, true, set, length, get_or, sym, ap, ◌∙◌, refl, arith}
+use Rattle.std.proofs.lemmas.List.{length-set, map-set}
+use Rattle.std.proofs.Math.Seq.{map-set_same}
 use Rattle.ledger.specs.declared.job.Status.{Status}
-use Rattle.ledger.specs.Jobs.{is_ended}
-use Rattle.ledger.specs.Ledgers.{wanted}
-use Rattle.std.proofs.lemmas.List.{length-set}
-use Rattle.tables.proofs.Slots.{stays_seated, free_turn, near_set}
+use Rattle.tables.specs.Seats.{after, distinct, all_given, number_in, proper, state_in}
+use Rattle.tables.specs.Slots.{moved}
+use Rattle.tables.specs.Views.{numbers_of, states_of}
+use Rattle.tables.proofs.Sitting.{after_number, after_state, each_set, state_at}
+use Rattle.tables.proofs.Slots.{stays_proper}
 use Rattle.tables.proofs.seats.Seats.turn.Goals as goal
 
 pub invariant_of-self : goal.invariant_of-self
 invariant_of-self c =
     let t = c.args.self.now in
-    let stays = stays_seated (get_or t.states c.args.slot Ended) c.args.event (t.near c.args.slot) c.requires.stays in
+    let i = c.args.seat.slot in
+    let o = get_or t.slots i None in
+    let is = map-set_same number_in t.slots i c.after.result None (ap number_in c.after.ensures.value ∙ after_number o c.args.event) in
     record {
-      full = (t.full.0, length-set t.states _ _ ∙ t.full.1);
-      apart = t.apart;
-      known = t.known;
-      free = free_turn t.numbers t.states _ _ (omega (arith, t.full.1, c.requires.within)) t.free
-          (ap is_ended c.next.ensures.value ∙ stays.0);
-      near = near_set t.states _ _ (omega (arith, t.full.1, c.requires.within)) t.near
-          (subst (λ (x : Status). (wanted x).granule < 256) (sym c.next.ensures.value) stays.1);
+      full = length-set t.slots i _ ∙ t.full;
+      apart = ap distinct is ∙ t.apart;
+      known = ap (all_given t.opened) is ∙ t.known;
+      proper = each_set t.slots i c.after.result (omega (arith, t.full, c.args.seat.within))
+          (ap proper c.after.ensures.value ∙ stays_proper o c.args.event (t.proper i) c.requires) t.proper;
+    }
+
+pub returns : goal.returns
+returns c =
+    let t = c.args.self.now in
+    let i = c.args.seat.slot in
+    let o = get_or t.slots i None in
+    record {
+      numbers = map-set_same number_in t.slots i c.after.result None (ap number_in c.after.ensures.value ∙ after_number o c.args.event);
+      states =
+          map-set state_in t.slots i c.after.result
+          ∙ ap (set (states_of t) i) (ap state_in c.after.ensures.value ∙ after_state o c.args.event c.requires ∙ ap (λ (st : Status). moved st c.args.event) (sym (state_at t i)));
+      opened = refl;
     }

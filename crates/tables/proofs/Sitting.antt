@@ -1,0 +1,225 @@
+-- What the seats say of each slot: of its number and of the state of the job in it.
+use Rattle.std.proofs.Common.{◌≡◌, ℕ, suc, fold, min, ltb, ◌||◌, ◌<◌, ◌≤◌, [], ◌∷◌, Bool, true, false, not, ◌&&◌, eqb, Option, Some, None, unwrap_or, List, length, get_or, set, map, sym, refl, ap, ap₂, cond, ◌∙◌, subst, inl, inr, lit<, arith}
+use Rattle.std.proofs.Math.ListN.{get_or-map}
+use Rattle.std.proofs.lemmas.List.{length-map, get_or-set_same, get_or-set_other}
+use Rattle.std.proofs.lemmas.Option.{cond_some, none-some}
+use Rattle.std.proofs.lemmas.Bool.{and_from, and_parts, cases_eq, cases_lt, cond-false, cond-true, cond_both, le-ltb, lt-ltb, ltb-true, ltb-false, cases_Bool, ne_eqb, not-true}
+use Rattle.std.specs.List.{filter_map, position, position_or_len, reduce}
+use Rattle.ledger.specs.declared.job.Status.{Status}
+use Rattle.ledger.specs.declared.job.Status.TheVariants.{Working, Ended}
+use Rattle.ledger.specs.Jobs.{is_ended}
+use Rattle.ledger.specs.Ledgers.{wanted}
+use Rattle.tables.specs.declared.slot.Slot.{Slot}
+use Rattle.tables.specs.declared.seats.Seats.{Seats}
+use Rattle.tables.specs.declared.slot.Event.{Event}
+use Rattle.tables.specs.declared.slot.Event.TheVariants.{Through, Stop, Wound, Reopen}
+use Rattle.tables.specs.Slots.{moved, near}
+use Rattle.tables.specs.Seats.{above, after, given, has, nearer, next_above, number_in, numbers_in, place, proper, seated, slot, state_in}
+use Rattle.tables.specs.Views.{numbers_of, states_of}
+
+-- a slot has the number 0 just where its state is ended, and is near where it waits
+free_in : (o : Option Slot) → proper o ≡ true → eqb (number_in o) 0 ≡ is_ended (state_in o)
+free_in None p = refl
+free_in (Some s) p =
+    let a = and_parts _ _ p in
+    let b = and_parts _ _ a.1 in
+    not-true (eqb s.number 0) a.0 ∙ sym (not-true (is_ended s.state) b.0)
+
+near_in : (o : Option Slot) → proper o ≡ true → (wanted (state_in o)).granule < 256
+near_in None p = lit< tt
+near_in (Some s) p =
+    let a = and_parts _ _ p in
+    let b = and_parts _ _ a.1 in
+    ltb-true (wanted s.state).granule 256 b.1
+
+module _ (s : Seats) where
+  pub numbers_full : length (numbers_of s) ≡ 16
+  numbers_full = length-map _ _ ∙ s.full
+
+  pub states_full : length (states_of s) ≡ 16
+  states_full = length-map _ _ ∙ s.full
+
+  pub number_at : (i : ℕ) → get_or (numbers_of s) i 0 ≡ number_in (get_or s.slots i None)
+  number_at i = get_or-map number_in s.slots i None
+
+  pub state_at : (i : ℕ) → get_or (states_of s) i Ended ≡ state_in (get_or s.slots i None)
+  state_at i = get_or-map state_in s.slots i None
+
+  pub free_at : (i : ℕ) → eqb (get_or (numbers_of s) i 0) 0 ≡ is_ended (get_or (states_of s) i Ended)
+  free_at i = ap (λ (n : ℕ). eqb n 0) (number_at i) ∙ free_in (get_or s.slots i None) (s.proper i) ∙ sym (ap is_ended (state_at i))
+
+  pub near_at : (i : ℕ) → (wanted (get_or (states_of s) i Ended)).granule < 256
+  near_at i = subst (λ (x : Status). (wanted x).granule < 256) (sym (state_at i)) (near_in (get_or s.slots i None) (s.proper i))
+
+-- what holds of each slot holds when one is written of which it holds
+pub each_set :
+    (slots : List (Option Slot)) (k : ℕ) (o : Option Slot) → k < length slots → proper o ≡ true → ((i : ℕ) → proper (get_or slots i None) ≡ true)
+    → (i : ℕ) → proper (get_or (set slots k o) i None) ≡ true
+each_set slots k o l p h i =
+    elim (cases_eq i k) [
+      | inl e ↦ ap (λ (j : ℕ). proper (get_or (set slots k o) j None)) e ∙ ap proper (get_or-set_same slots k o None l) ∙ p
+      | inr e ↦ ap proper (get_or-set_other slots k i o None e) ∙ h i
+    ]
+
+-- who sits down and works is as it should be
+pub working_proper : (n : ℕ) → 0 < n → proper (Some (record { number = n; state = Working })) ≡ true
+working_proper n l = and_from _ _ (ap not (ne_eqb n 0 (λ (z : n ≡ 0). omega arith))) refl
+
+-- the state of a job that something has happened to; a free slot is still free
+pub after_state : (o : Option Slot) (e : Event) → near e ≡ true → state_in (after e o) ≡ moved (state_in o) e
+after_state None Through h = refl
+after_state None (Stop q) h = refl
+after_state None Wound h = refl
+after_state None Reopen h = refl
+after_state (Some s) e h = refl
+
+pub after_number : (o : Option Slot) (e : Event) → number_in (after e o) ≡ number_in o
+after_number None e = refl
+after_number (Some s) e = refl
+
+-- the first free slot, and the slot of a job, are those that the numbers tell
+first_free : (slots : List (Option Slot)) → ((i : ℕ) → proper (get_or slots i None) ≡ true) → position_or_len (has None) slots ≡ place (numbers_in slots) 0
+first_free [] h = refl
+first_free (None ∷ os) h = refl
+first_free (Some s ∷ os) h =
+    let z = not-true (eqb s.number 0) (and_parts _ _ (h 0)).0 in
+    let ih = first_free os (λ i. h (suc i)) in
+    rw (z, numbers_in, number_in, place) (omega (arith, ih))
+
+first_with : (slots : List (Option Slot)) (k : ℕ) → (k ≡ 0 → ⊥) → position_or_len (has (Some k)) slots ≡ place (numbers_in slots) k
+first_with [] k d = refl
+first_with (None ∷ os) k d =
+    let z = ne_eqb 0 k (λ (e : 0 ≡ k). d (sym e)) in
+    let ih = first_with os k d in
+    rw (z, numbers_in, number_in, place) (omega (arith, ih))
+first_with (Some s ∷ os) k d =
+    elim (cases_Bool (eqb s.number k)) [
+      | inl e ↦ rw (e, numbers_in, number_in, place) refl
+      | inr e ↦ let ih = first_with os k d in rw (e, numbers_in, number_in, place) (omega (arith, ih))
+    ]
+
+-- a number that is a job's, and its number
+pub given_some : (k : ℕ) → (k ≡ 0 → ⊥) → given k ≡ Some k
+given_some k d = let z = ne_eqb k 0 d in rw (z, given) refl
+
+-- one step of the search: a number is taken, or passed over, as the 0 of a free slot is
+abbrev better : ℕ → ℕ → ℕ → Bool
+better n b x = ltb n x && (eqb b 0 || ltb x b)
+
+taken : (n b : ℕ) (ns : List ℕ) (x : ℕ) → better n b x ≡ true → fold (nearer n) b (x ∷ ns) ≡ fold (nearer n) x ns
+taken n b ns x e = ap (λ (c : ℕ). fold (nearer n) c ns) (cond-true (better n b x) x b e)
+
+passed : (n b : ℕ) (ns : List ℕ) (x : ℕ) → better n b x ≡ false → fold (nearer n) b (x ∷ ns) ≡ fold (nearer n) b ns
+passed n b ns x e = ap (λ (c : ℕ). fold (nearer n) c ns) (cond-false (better n b x) x b e)
+
+low : (n b x : ℕ) → ltb n x ≡ false → better n b x ≡ false
+low n b x e = ap (λ (t : Bool). t && (eqb b 0 || ltb x b)) e
+
+never : (n b : ℕ) → better n b 0 ≡ false
+never n b = low n b 0 (le-ltb n 0 (omega arith))
+
+-- where a number is had, a number is kept
+some_nearer : (n b x : ℕ) → (b ≡ 0 → ⊥) → nearer n b x ≡ 0 → ⊥
+some_nearer n b x d =
+    cond_both (ltb n x && (eqb b 0 || ltb x b)) x b (λ (y : ℕ). y ≡ 0 → ⊥) (λ t z. omega (arith, z, ltb-true n x (and_parts _ _ t).0)) (λ f. d)
+
+some_kept : (n b : ℕ) (xs : List ℕ) → (b ≡ 0 → ⊥) → fold (nearer n) b xs ≡ 0 → ⊥
+some_kept n b [] d = d
+some_kept n b (x ∷ xs) d = some_kept n (nearer n b x) xs (some_nearer n b x d)
+
+-- the least number above n: where one is had already, and from the beginning
+least_from :
+    (n b : ℕ) (slots : List (Option Slot)) → (b ≡ 0 → ⊥) → fold (nearer n) b (numbers_in slots) ≡ fold min b (filter_map (above n) slots)
+least_from n b [] d = refl
+least_from n b (None ∷ os) d = passed n b (numbers_in os) 0 (never n b) ∙ least_from n b os d
+least_from n b (Some s ∷ os) d =
+    let z = ne_eqb b 0 d in
+    elim (cases_Bool (ltb n s.number)) [
+      | inr e ↦ passed n b (numbers_in os) s.number (low n b s.number e) ∙ rw (e, above) (least_from n b os d)
+      | inl e ↦
+          elim (cases_Bool (ltb s.number b)) [
+            | inl l ↦
+                let small : min b s.number ≡ s.number = omega (arith, ltb-true s.number b l) in
+                let t : better n b s.number ≡ true = rw (e, z, l) refl in
+                taken n b (numbers_in os) s.number t ∙ least_from n s.number os (λ k. omega (arith, k, ltb-true n s.number e))
+                ∙ rw (e, above) (ap (λ (c : ℕ). fold min c (filter_map (above n) os)) (sym small))
+            | inr l ↦
+                let small : min b s.number ≡ b = omega (arith, ltb-false s.number b l) in
+                let t : better n b s.number ≡ false = rw (e, z, l) refl in
+                passed n b (numbers_in os) s.number t ∙ least_from n b os d
+                ∙ rw (e, above) (ap (λ (c : ℕ). fold min c (filter_map (above n) os)) (sym small))
+          ]
+    ]
+
+pub least_above : (n : ℕ) (slots : List (Option Slot)) → reduce min (filter_map (above n) slots) ≡ given (next_above n (numbers_in slots))
+least_above n [] = refl
+least_above n (None ∷ os) = least_above n os ∙ ap given (sym (passed n 0 (numbers_in os) 0 (never n 0)))
+least_above n (Some s ∷ os) =
+    elim (cases_Bool (ltb n s.number)) [
+      | inr e ↦ rw (e, above) (least_above n os) ∙ ap given (sym (passed n 0 (numbers_in os) s.number (low n 0 s.number e)))
+      | inl e ↦
+          let d : s.number ≡ 0 → ⊥ = λ k. omega (arith, k, ltb-true n s.number e) in
+          let r = least_from n s.number os d in
+          let t : better n 0 s.number ≡ true = rw e refl in
+          rw (e, above) (ap Some (sym r))
+          ∙ sym (given_some (fold (nearer n) s.number (numbers_in os)) (some_kept n s.number (numbers_in os) d))
+          ∙ ap given (sym (taken n 0 (numbers_in os) s.number t))
+    ]
+
+no_zero : (slots : List (Option Slot)) → ((i : ℕ) → proper (get_or slots i None) ≡ true) → position_or_len (has (Some 0)) slots ≡ length slots
+no_zero [] h = refl
+no_zero (None ∷ os) h = let ih = no_zero os (λ i. h (suc i)) in omega (arith, ih)
+no_zero (Some s ∷ os) h =
+    let z = not-true (eqb s.number 0) (and_parts _ _ (h 0)).0 in
+    let ih = no_zero os (λ i. h (suc i)) in
+    rw (z, length) (omega (arith, ih))
+
+module _ (s : Seats) where
+  pub free_place : position (has None) s.slots ≡ seated (place (numbers_of s) 0)
+  free_place =
+      ap₂ (λ (i n : ℕ). cond (ltb i n) (Some i) None) (first_free s.slots s.proper) s.full
+
+  pub place_of : (k : ℕ) → position (has (Some k)) s.slots ≡ seated (slot (numbers_of s) k)
+  place_of k =
+      elim (cases_eq k 0) [
+        | inr d ↦
+            let z = ne_eqb k 0 d in
+            rw (z, slot) (ap₂ (λ (i n : ℕ). cond (ltb i n) (Some i) None) (first_with s.slots k d) s.full)
+        | inl e ↦
+            let none : position (has (Some 0)) s.slots ≡ seated (slot (numbers_of s) 0) =
+            ap₂ (λ (i n : ℕ). cond (ltb i n) (Some i) None) (no_zero s.slots s.proper ∙ s.full) s.full ∙ ap seated (sym (numbers_full s)) in
+            subst (λ (n : ℕ). position (has (Some n)) s.slots ≡ seated (slot (numbers_of s) n)) (sym e) none
+      ]
+
+-- what a slot that is found says of the place, and what one that is not
+pub seated_at : (i k : ℕ) → Some k ≡ seated i → (i < 16) × (i ≡ k)
+seated_at i k h = let p = cond_some (ltb i 16) i k (sym h) in (ltb-true i 16 p.0, p.1)
+
+pub seated_none : (i : ℕ) → None ≡ seated i → 16 ≤ i
+seated_none i h =
+    elim (cases_lt i 16) [
+      | inl l ↦ absurd (none-some i (h ∙ cond-true (ltb i 16) (Some i) None (lt-ltb i 16 l)))
+      | inr l ↦ l
+    ]
+
+-- a job's number is not 0, and where there is none it is
+pub given_at : (i k : ℕ) → Some k ≡ given i → (i ≡ 0 → ⊥) × (i ≡ k)
+given_at i k h =
+    elim (cases_eq i 0) [
+      | inr d ↦ let p = cond_some true i k (sym (h ∙ given_some i d)) in (d, p.1)
+      | inl e ↦ absurd (none-some k (sym (h ∙ ap given e)))
+    ]
+
+pub given_none : (i : ℕ) → None ≡ given i → i ≡ 0
+given_none i h =
+    elim (cases_eq i 0) [
+      | inr d ↦ absurd (none-some i (h ∙ given_some i d))
+      | inl e ↦ e
+    ]
+
+pub given_back : (i : ℕ) → unwrap_or (given i) 0 ≡ i
+given_back i =
+    elim (cases_eq i 0) [
+      | inr d ↦ ap (λ (o : Option ℕ). unwrap_or o 0) (given_some i d)
+      | inl e ↦ ap (λ (n : ℕ). unwrap_or (given n) 0) e ∙ sym e
+    ]

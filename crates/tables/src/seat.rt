@@ -1,0 +1,9 @@
+// Where a job sits.
+ghost use Rattle.std.specs.Prelude.{◌<◌};
+
+// One of the 16 slots, by its place.
+#[derive(Clone, Copy)]
+pub(crate) struct Seat {
+    pub(crate) slot: usize,
+    ghost within: { slot < 16 },
+}
