@@ -11,19 +11,20 @@ fn added(counts: &[u8]) -> u32
     counts.iter().map(|count| u32::from(*count)).sum()
 }
 
-impl Head {
+impl From<Row> for Head {
+    ghost from_gives = { λ row head. (head.counts ≡ row.counts) × (head.group ≡ row.group) };
+
     // The row with its counts added up.
-    pub fn of(row: Row) -> Head
-        ensures counts { result.counts ≡ row.counts }
-        ensures group { result.group ≡ row.group }
-    {
+    fn from(row: Row) -> Head {
         Head {
             counts: row.counts,
             holders: added(&row.counts),
             group: row.group,
         }
     }
+}
 
+impl Head {
     // The join of all modes held.
     pub fn group(&self) -> u8
         ensures value { result ≡ self.now.group }

@@ -1,6 +1,6 @@
 // How many hold each mode of a granule.
-ghost use Rattle.std.specs.Prelude.{◌≡◌, ℕ, ◌+◌, ◌<◌, ◌≤◌, [], length, slice_index, slice_index_or};
-ghost use Rattle.tables.specs.Heads.{one, if_held, group_of};
+ghost use Rattle.std.specs.Prelude.{◌≡◌, ℕ, ◌+◌, ◌<◌, ◌≤◌, [], if◌then◌else◌, nat_eq, length, slice_index, slice_index_or};
+ghost use Rattle.tables.specs.Heads.{one, group_of};
 
 use super::Held;
 use crate::head::Row;
@@ -33,11 +33,11 @@ pub(super) fn with(mut counts: [u8; 16], mode: u8) -> [u8; 16]
 }
 
 // A mode if somebody is counted there, else no lock.
-fn if_held(counts: &[u8; 16], mode: usize) -> u8
+fn if_held(count: u8, mode: usize) -> u8
     requires { mode < 16 }
-    ensures value { result ≡ if_held counts.now mode }
+    ensures value { result ≡ (if nat_eq count 0 then 0 else mode) }
 {
-    if counts[mode] == 0 { 0 } else { mode as u8 }
+    if count == 0 { 0 } else { mode as u8 }
 }
 
 impl Held {
@@ -48,8 +48,8 @@ impl Held {
     {
         let counts = self.counts[granule as usize];
         let mut group = 0;
-        for mode in 0..16 {
-            group = system.join(group, if_held(&counts, mode));
+        for (mode, count) in counts.iter().enumerate() {
+            group = system.join(group, if_held(*count, mode));
         }
         Row { counts, group }
     }

@@ -23,7 +23,7 @@ impl<M: ModeSystem, S: Shelf> Core<M, S> {
         ensures group { result.0 ≡ group M.ModeSystem.meaning (jobs_of self.now.seats self.now.held) granule (suc self.now.seats.opened) }
         ensures holders { result.1 ≡ holders (jobs_of self.now.seats self.now.held) granule }
     {
-        let head = Head::of(self.held.row(&self.system, granule));
+        let head = Head::from(self.held.row(&self.system, granule));
         (head.group(), head.holders())
     }
 }

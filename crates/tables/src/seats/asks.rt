@@ -91,7 +91,10 @@ impl Seats {
     fn least_above(&self, number: u32) -> Option<u32>
         ensures value { result ≡ reduce min (filter_map (above number) self.now.slots) }
     {
-        self.slots.iter().filter_map(|slot| above(number, slot)).min()
+        self.slots
+            .iter()
+            .filter_map(|slot| above(number, slot))
+            .min()
     }
 
     // The oldest job that is younger than a number.

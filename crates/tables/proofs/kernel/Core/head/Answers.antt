@@ -8,11 +8,11 @@ returns g c =
     record {
       group =
           c.group.ensures.value
-          ∙ c.of-head.ensures.group
+          ∙ c.from-head.ensures.1
           ∙ c.row.ensures.group
           ∙ group_agrees t c.args.granule (omega (arith, c.ranges.granule.fits)) g.M.ModeSystem.meaning g.met.M.ModeSystem.lawful;
       holders =
           c.holders.ensures.value
-          ∙ ap sum (c.of-head.ensures.counts ∙ c.row.ensures.counts)
+          ∙ ap sum (c.from-head.ensures.0 ∙ c.row.ensures.counts)
           ∙ holders_agree t c.args.granule (omega (arith, c.ranges.granule.fits));
     }
