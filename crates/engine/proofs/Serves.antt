@@ -73,7 +73,7 @@ serves s law c (laid ps m) after a e =
 
 -- An engine that is laid out does what its tables do.
 pub laid_serves :
-    {S : Type 0} (s : System) → Lawful s → (c : Call) (words : S → List ℕ) (tree : Option Tree) (t : Tree) (core core' : Core S) (a : Answer) → tree ≡ Some t
+    {M S : Type 0} (s : System) → Lawful s → (c : Call) (words : S → List ℕ) (tree : Option Tree) (t : Tree) (core core' : Core M S) (a : Answer) → tree ≡ Some t
     → serve (layout s t) c (model words core) ≡ record { left = model words core'; said = a }
     → Served s c (state_by words tree core) (state_by words tree core') a
 laid_serves s law c words tree t core core' a e f =

@@ -10,4 +10,3 @@ pub mod engine;
 pub mod run;
 
 pub use engine::Engine;
-pub use tables::Turn;

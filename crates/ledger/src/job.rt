@@ -45,10 +45,7 @@ impl Status {
     pub fn is_open(self) -> bool
         ensures value { result ≡ is_open self }
     {
-        match self {
-            Status::Working | Status::Waiting(_) => true,
-            Status::Wounded | Status::Ended => false,
-        }
+        matches!(self, Status::Working | Status::Waiting(_))
     }
 }
 

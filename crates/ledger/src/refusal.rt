@@ -1,5 +1,6 @@
 // Why a call is refused.
 ghost use Rattle.std.specs.Prelude.{◌≡◌};
+ghost use Rattle.ledger.specs.declared.refusal.Refusal.TheVariants.{Table};
 ghost use Rattle.ledger.specs.Refusals.{number};
 
 use granules::Unfit;
@@ -39,5 +40,13 @@ impl Refusal {
             Refusal::ShelfTooShort => 13,
             Refusal::AlreadyLaidOut => 14,
         }
+    }
+}
+
+impl From<Unfit> for Refusal {
+    ghost from_gives = { λ unfit refusal. refusal ≡ Table unfit };
+
+    fn from(unfit: Unfit) -> Refusal {
+        Refusal::Table(unfit)
     }
 }

@@ -3,7 +3,7 @@ ghost use Rattle.ledger.specs.declared.call.Call.TheVariants.{Open, Again, Commi
 ghost use Rattle.tables.specs.Replies.{as_done, as_job, as_head};
 ghost use Rattle.engine.specs.States.{Served, state};
 
-use super::Engine;
+use super::{Engine, laid_out};
 use ledger::Refusal;
 use modes::system::ModeSystem;
 use shelf::Shelf;
@@ -13,9 +13,7 @@ impl<M: ModeSystem, S: Shelf> Engine<M, S> {
     pub fn open(&mut self) -> Result<u32, Refusal>
         ensures served { Served M.ModeSystem.meaning Open (state S.Shelf.words self.old) (state S.Shelf.words self.new) (as_job result) }
     {
-        let Some(_) = &self.tree else {
-            return Err(Refusal::NotLaidOut);
-        };
+        laid_out(&self.tree)?;
         self.core.open()
     }
 
@@ -23,9 +21,7 @@ impl<M: ModeSystem, S: Shelf> Engine<M, S> {
     pub fn again(&mut self, job: u32) -> Result<(), Refusal>
         ensures served { Served M.ModeSystem.meaning (Again job) (state S.Shelf.words self.old) (state S.Shelf.words self.new) (as_done result) }
     {
-        let Some(_) = &self.tree else {
-            return Err(Refusal::NotLaidOut);
-        };
+        laid_out(&self.tree)?;
         self.core.again(job)
     }
 
@@ -33,9 +29,7 @@ impl<M: ModeSystem, S: Shelf> Engine<M, S> {
     pub fn commit(&mut self, job: u32) -> Result<(), Refusal>
         ensures served { Served M.ModeSystem.meaning (Commit job) (state S.Shelf.words self.old) (state S.Shelf.words self.new) (as_done result) }
     {
-        let Some(_) = &self.tree else {
-            return Err(Refusal::NotLaidOut);
-        };
+        laid_out(&self.tree)?;
         self.core.commit(job)
     }
 
@@ -43,9 +37,7 @@ impl<M: ModeSystem, S: Shelf> Engine<M, S> {
     pub fn giveup(&mut self, job: u32) -> Result<(), Refusal>
         ensures served { Served M.ModeSystem.meaning (GiveUp job) (state S.Shelf.words self.old) (state S.Shelf.words self.new) (as_done result) }
     {
-        let Some(_) = &self.tree else {
-            return Err(Refusal::NotLaidOut);
-        };
+        laid_out(&self.tree)?;
         self.core.giveup(job)
     }
 
@@ -53,9 +45,7 @@ impl<M: ModeSystem, S: Shelf> Engine<M, S> {
     pub fn look(&self, granule: u32) -> Result<(u8, u32), Refusal>
         ensures served { Served M.ModeSystem.meaning (Look granule) (state S.Shelf.words self.now) (state S.Shelf.words self.now) (as_head result) }
     {
-        let Some(tree) = &self.tree else {
-            return Err(Refusal::NotLaidOut);
-        };
-        self.core.look(&self.system, tree, granule)
+        let tree = laid_out(&self.tree)?;
+        self.core.look(tree, granule)
     }
 }

@@ -17,9 +17,8 @@ impl<M: ModeSystem, S: Shelf> Engine<M, S> {
         ensures made { state S.Shelf.words result ≡ bare (S.Shelf.words shelf) }
     {
         Engine {
-            system,
             tree: None,
-            core: Core::blank(shelf),
+            core: Core::blank(system, shelf),
         }
     }
 
@@ -38,10 +37,7 @@ impl<M: ModeSystem, S: Shelf> Engine<M, S> {
         if let Some(_) = &self.tree {
             return Err(Refusal::AlreadyLaidOut);
         }
-        let tree = match Tree::new(parents, words.len()) {
-            Ok(tree) => tree,
-            Err(unfit) => return Err(Refusal::Table(unfit)),
-        };
+        let tree = Tree::new(parents, words.len())?;
         if self.core.shelf().size() < parents.len() {
             return Err(Refusal::ShelfTooShort);
         }

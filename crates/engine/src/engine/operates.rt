@@ -1,40 +1,37 @@
 // The operations of jobs.
 ghost use Rattle.operations.specs.declared.operation.Action.TheVariants.{Read, Mean, Set, Add};
+ghost use Rattle.operations.specs.declared.operation.Outcome.TheVariants.{Done};
 ghost use Rattle.ledger.specs.declared.call.Call.TheVariants.{Carry, Go};
+ghost use Rattle.ledger.specs.Promises.{Shaped};
 ghost use Rattle.tables.specs.Replies.{as_figures, as_average, as_written, as_outcome, InShape};
 ghost use Rattle.engine.specs.States.{Served, state};
 
-use super::Engine;
+use super::{Engine, laid_out};
 use ledger::Refusal;
 use modes::system::ModeSystem;
 use operations::{Action, Operation, Outcome};
 use shelf::Shelf;
-use tables::Turn;
 
 impl<M: ModeSystem, S: Shelf> Engine<M, S> {
     // An operation of a working job: it takes its locks and is carried out, or waits for an older job.
-    pub fn carry(&mut self, job: u32, operation: Operation) -> Result<Turn<Outcome>, Refusal>
+    pub fn carry(&mut self, job: u32, operation: Operation) -> Result<Option<Outcome>, Refusal>
         ensures served { Served M.ModeSystem.meaning (Carry job operation) (state S.Shelf.words self.old) (state S.Shelf.words self.new) (as_outcome result) }
         ensures shape { InShape operation.action result }
     {
-        let Some(tree) = &self.tree else {
-            return Err(Refusal::NotLaidOut);
-        };
-        self.core.operate(&self.system, tree, job, operation)
+        let tree = laid_out(&self.tree)?;
+        self.core.operate(tree, job, operation)
     }
 
     // The operation for which a job waits, tried anew.
-    pub fn go(&mut self, job: u32) -> Result<Turn<Outcome>, Refusal>
+    pub fn go(&mut self, job: u32) -> Result<Option<Outcome>, Refusal>
         ensures served { Served M.ModeSystem.meaning (Go job) (state S.Shelf.words self.old) (state S.Shelf.words self.new) (as_outcome result) }
     {
-        let Some(tree) = &self.tree else {
-            return Err(Refusal::NotLaidOut);
-        };
-        self.core.go(&self.system, tree, job)
+        let tree = laid_out(&self.tree)?;
+        self.core.go(tree, job)
     }
 
     // The sum of the words of the records beneath a granule, and how many records there are.
-    pub fn read(&mut self, job: u32, granule: u32) -> Result<Turn<(u64, u32)>, Refusal>
+    pub fn read(&mut self, job: u32, granule: u32) -> Result<Option<(u64, u32)>, Refusal>
         ensures served { Served M.ModeSystem.meaning (Carry job (record { granule = granule; action = Read })) (state S.Shelf.words self.old) (state S.Shelf.words self.new) (as_figures result) }
     {
         let operation = Operation {
@@ -42,14 +39,14 @@ impl<M: ModeSystem, S: Shelf> Engine<M, S> {
             action: Action::Read,
         };
         match self.carry(job, operation)? {
-            Turn::Through(Outcome::Figures(sum, count)) => Ok(Turn::Through((sum, count))),
-            Turn::Through(_) => unreachable(),
-            Turn::Stopped => Ok(Turn::Stopped),
+            Some(Outcome::Figures(sum, count)) => Ok(Some((sum, count))),
+            Some(_) => unreachable(),
+            None => Ok(None),
         }
     }
 
     // That sum over that number, rounded to a whole number, halves up.
-    pub fn mean(&mut self, job: u32, granule: u32) -> Result<Turn<u64>, Refusal>
+    pub fn mean(&mut self, job: u32, granule: u32) -> Result<Option<u64>, Refusal>
         ensures served { Served M.ModeSystem.meaning (Carry job (record { granule = granule; action = Mean })) (state S.Shelf.words self.old) (state S.Shelf.words self.new) (as_average result) }
     {
         let operation = Operation {
@@ -57,39 +54,43 @@ impl<M: ModeSystem, S: Shelf> Engine<M, S> {
             action: Action::Mean,
         };
         match self.carry(job, operation)? {
-            Turn::Through(Outcome::Average(mean)) => Ok(Turn::Through(mean)),
-            Turn::Through(_) => unreachable(),
-            Turn::Stopped => Ok(Turn::Stopped),
+            Some(Outcome::Average(mean)) => Ok(Some(mean)),
+            Some(_) => unreachable(),
+            None => Ok(None),
+        }
+    }
+
+    // A set or an add, which has no more to tell than that it is done.
+    fn write(&mut self, job: u32, operation: Operation) -> Result<Option<()>, Refusal>
+        requires { Shaped operation.action Done }
+        ensures served { Served M.ModeSystem.meaning (Carry job operation) (state S.Shelf.words self.old) (state S.Shelf.words self.new) (as_written result) }
+    {
+        match self.carry(job, operation)? {
+            Some(Outcome::Done) => Ok(Some(())),
+            Some(_) => unreachable(),
+            None => Ok(None),
         }
     }
 
     // Puts a word into every record beneath a granule.
-    pub fn set(&mut self, job: u32, granule: u32, word: u32) -> Result<Turn<()>, Refusal>
+    pub fn set(&mut self, job: u32, granule: u32, word: u32) -> Result<Option<()>, Refusal>
         ensures served { Served M.ModeSystem.meaning (Carry job (record { granule = granule; action = Set word })) (state S.Shelf.words self.old) (state S.Shelf.words self.new) (as_written result) }
     {
         let operation = Operation {
             granule,
             action: Action::Set(word),
         };
-        match self.carry(job, operation)? {
-            Turn::Through(Outcome::Done) => Ok(Turn::Through(())),
-            Turn::Through(_) => unreachable(),
-            Turn::Stopped => Ok(Turn::Stopped),
-        }
+        self.write(job, operation)
     }
 
     // Adds a word to every record beneath a granule, wrapping.
-    pub fn add(&mut self, job: u32, granule: u32, word: u32) -> Result<Turn<()>, Refusal>
+    pub fn add(&mut self, job: u32, granule: u32, word: u32) -> Result<Option<()>, Refusal>
         ensures served { Served M.ModeSystem.meaning (Carry job (record { granule = granule; action = Add word })) (state S.Shelf.words self.old) (state S.Shelf.words self.new) (as_written result) }
     {
         let operation = Operation {
             granule,
             action: Action::Add(word),
         };
-        match self.carry(job, operation)? {
-            Turn::Through(Outcome::Done) => Ok(Turn::Through(())),
-            Turn::Through(_) => unreachable(),
-            Turn::Stopped => Ok(Turn::Stopped),
-        }
+        self.write(job, operation)
     }
 }

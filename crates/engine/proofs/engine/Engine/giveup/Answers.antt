@@ -7,6 +7,6 @@ pub returns : goal.returns
 returns g c =
     record {
       served =
-          laid_serves g.M.ModeSystem.meaning g.met.M.ModeSystem.lawful (GiveUp c.args.job) g.S.Shelf.words c.args.self.now.tree c.in-Some.field-0 c.args.self.now.core
-          c.giveup.new.self _ c.in-Some.is (c.giveup.ensures.served (layout g.M.ModeSystem.meaning c.in-Some.field-0));
+          laid_serves g.M.ModeSystem.meaning g.met.M.ModeSystem.lawful (GiveUp c.args.job) g.S.Shelf.words c.args.self.now.tree c.in_ok-laid_out.field-0.now c.args.self.now.core
+          c.giveup.new.self _ c.in_ok-laid_out.ensures.laid (c.giveup.ensures.served (layout g.M.ModeSystem.meaning c.in_ok-laid_out.field-0.now));
     }

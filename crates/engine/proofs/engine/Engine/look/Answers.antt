@@ -6,6 +6,6 @@ pub returns : goal.returns
 returns g c =
     record {
       served =
-          laid_serves g.M.ModeSystem.meaning g.met.M.ModeSystem.lawful (Look c.args.granule) g.S.Shelf.words c.args.self.now.tree c.in-Some.tree c.args.self.now.core
-          c.args.self.now.core _ c.in-Some.is c.look.ensures.served;
+          laid_serves g.M.ModeSystem.meaning g.met.M.ModeSystem.lawful (Look c.args.granule) g.S.Shelf.words c.args.self.now.tree c.in_ok-tree.tree.now c.args.self.now.core
+          c.args.self.now.core _ c.in_ok-tree.ensures.laid c.look.ensures.served;
     }
