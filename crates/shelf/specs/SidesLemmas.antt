@@ -1,24 +1,24 @@
 -- The words of two shelves end to end, by the side that a place lies on.
 -- Lemmas: they stand here, and not in proofs/, since an impl may show its laws only by what stands in specs/.
-use Rattle.std.specs.Prelude.{◌≡◌, ℕ, ◌+◌, ◌-◌, ◌<◌, ◌≤◌, min, cond, ltb, List, ◌++◌, length, take, Some, None, nat_lt, slice_index, refl}
+use Rattle.std.specs.Prelude.{◌≡◌, ℕ, ◌+◌, ◌-◌, ◌<◌, ◌≤◌, min, cond, ltb, List, ◌++◌, length, take, Some, None, Option, nat_lt, slice_index, refl}
 use Rattle.std.proofs.Common.{sym, ◌∙◌, ap, ap₂, inl, inr, arith, length-take, length-append}
 use Rattle.std.proofs.Math.Seq.{take-set-lt}
 use Rattle.std.proofs.lemmas.List.{get_or_past, get_or-take, get_or_append_left, get_or-append_right, set-append_left, set-append_right, set_past}
 use Rattle.std.proofs.lemmas.Bool.{cond_above, cond_both, cases_lt, le-ltb, ltb-true, ltb-false}
 use Rattle.std.proofs.lemmas.Bool.Decides.{nat_tests}
 use Rattle.shelf.specs.declared.joined.Side.{Side}
-use Rattle.shelf.specs.declared.joined.Side.TheVariants.{First, Second, Outside}
+use Rattle.shelf.specs.declared.joined.Side.TheVariants.{First, Second}
 use Rattle.shelf.specs.Words.{Fit, joined}
 use Rattle.shelf.specs.Sides.{side, Leads}
 
 -- what holds at each side, where a place lies on it, holds at the side that it lies on
 by_side :
-    (P : Side → Type 0) (n i : ℕ) → (i < 65536 → i < n → P (First i)) → (i < 65536 → n ≤ i → P (Second (i - n))) → (65536 ≤ i → P Outside)
-    → P (side n i)
+    (P : Option Side → Type 0) (n i : ℕ) → (i < 65536 → i < n → P (Some (First i)))
+    → (i < 65536 → n ≤ i → P (Some (Second (i - n)))) → (65536 ≤ i → P None) → P (side n i)
 by_side P n i first second outside =
-    cond_both (nat_lt i 65536) _ Outside P
+    cond_both (nat_lt i 65536) _ None P
     (λ l.
-    cond_both (nat_lt i n) (First i) (Second (i - n)) P (λ h. first (ltb-true i 65536 l) (ltb-true i n h))
+    cond_both (nat_lt i n) (First i) (Second (i - n)) (λ s. P (Some s)) (λ h. first (ltb-true i 65536 l) (ltb-true i n h))
     (λ h. second (ltb-true i 65536 l) (ltb-false i n h)))
     (λ l. outside (ltb-false i 65536 l))
 
@@ -54,7 +54,7 @@ module _ (xs ys : List ℕ) where
       ]
 
   -- what a place leads to on the first side, on the second and outside
-  first : (i : ℕ) → i < 65536 → i < length xs → Leads xs ys i (First i)
+  first : (i : ℕ) → i < 65536 → i < length xs → Leads xs ys i (Some (First i))
   first i l h =
       let says : ltb i (length xs) ≡ ltb i (length (joined xs ys)) = rw length_joined (grind (arith, nat_tests)) in
       record {
@@ -63,7 +63,7 @@ module _ (xs ys : List ℕ) where
         leaves = λ w. ap (take 65536) (sym (set-append_left xs ys i w h)) ∙ take-set-lt 65536 (xs ++ ys) i w l;
       }
 
-  second : (i : ℕ) → i < 65536 → length xs ≤ i → Leads xs ys i (Second (i - length xs))
+  second : (i : ℕ) → i < 65536 → length xs ≤ i → Leads xs ys i (Some (Second (i - length xs)))
   second i l h =
       let says : ltb (i - length xs) (length ys) ≡ ltb i (length (joined xs ys)) = rw length_joined (grind (arith, nat_tests)) in
       record {
@@ -72,7 +72,7 @@ module _ (xs ys : List ℕ) where
         leaves = λ w. ap (take 65536) (sym (set-append_right xs ys (length xs) i w refl h)) ∙ take-set-lt 65536 (xs ++ ys) i w l;
       }
 
-  outside : (i : ℕ) → 65536 ≤ i → Leads xs ys i Outside
+  outside : (i : ℕ) → 65536 ≤ i → Leads xs ys i None
   outside i h =
       record {
         gives = cond_above i (length (joined xs ys)) (Some (slice_index (joined xs ys) i)) None None (ends i h) refl;
