@@ -25,9 +25,7 @@ pub fn number(entry: &[u8]) -> Option<u32>
     if !is_led(entry) {
         return None;
     }
-    let mut value = 0;
-    for b in entry {
-        value = read_on(value, *b)?;
-    }
-    Some(value)
+    entry
+        .iter()
+        .try_fold(0, |value, byte| read_on(value, *byte))
 }
