@@ -1,5 +1,5 @@
 // Two shelves end to end.
-ghost use Rattle.std.specs.Prelude.{◌≡◌, ◌+◌, ◌≤◌, min};
+ghost use Rattle.std.specs.Prelude.{◌≡◌, length};
 ghost use Rattle.shelf.specs.Sides.{Leads, side};
 ghost use Rattle.shelf.specs.Words.{joined};
 ghost use Rattle.shelf.specs.SidesLemmas.{joined_few, joined_fit};
@@ -31,25 +31,21 @@ enum Side {
     Second(usize),
 }
 
-// The side of a place, where the first shelf has `size` places. A place beyond the most lies on neither.
-fn side_of(size: usize, place: usize) -> Option<Side>
-    ensures { result ≡ side size place }
-{
-    if place >= LIMIT {
-        None
-    } else if place < size {
-        Some(Side::First(place))
-    } else {
-        Some(Side::Second(place - size))
-    }
-}
-
 impl<A: Shelf, B: Shelf> JoinedShelf<A, B> {
-    // The side of a place, where a get and a put do what they should do at the place of the two.
+    // The side of a place, where a get and a put do what they should do at the place of the two. A place beyond the most
+    // lies on neither.
     fn side(&self, place: usize) -> Option<Side>
-        ensures { Leads (A.Shelf.words self.now.first) (B.Shelf.words self.now.second) place result }
+        ensures value { result ≡ side (length (A.Shelf.words self.now.first)) place }
+        ensures leads { Leads (A.Shelf.words self.now.first) (B.Shelf.words self.now.second) place result }
     {
-        side_of(self.first.size(), place)
+        let size = self.first.size();
+        if place >= LIMIT {
+            None
+        } else if place < size {
+            Some(Side::First(place))
+        } else {
+            Some(Side::Second(place - size))
+        }
     }
 }
 
