@@ -11,12 +11,14 @@ pub const MOST: usize = 256;
 
 // What holds one word.
 pub trait Cell: Copy {
-    // The word that a cell holds.
+    // The word of a cell.
     ghost held: { Self → ℕ };
 
+    // A cell that holds a word.
     fn pack(word: u32) -> Self
         ensures value { held result ≡ word };
 
+    // The word that a cell holds.
     fn unpack(self) -> u32
         ensures value { result ≡ held self };
 
@@ -57,6 +59,7 @@ impl Cell for [u8; 4] {
     }
 }
 
+// The cells of places, in their order.
 #[derive(Drop)]
 pub struct CellShelf<C: Cell> {
     cells: Vec<C>,
@@ -64,8 +67,10 @@ pub struct CellShelf<C: Cell> {
     ghost fit: { Fit (map C.held cells.items) },
 }
 
+// Words as they are.
 pub type WordShelf = CellShelf<u32>;
 
+// Four bytes a word.
 pub type PackedShelf = CellShelf<[u8; 4]>;
 
 impl<C: Cell> CellShelf<C> {
