@@ -1,7 +1,13 @@
 -- What is read as a number, and that it is right.
-use Rattle.std.proofs.Common.{◌≡◌, ℕ, ◌+◌, ◌-◌, ◌*◌, ◌<◌, ◌≤◌, Bool, true, false, cond, ◌&&◌, ltb, List, [], ◌∷◌, length, get_or, drop, Some, None, decimal, Option, sym, refl, ap, ◌∙◌, subst, inl, inr, arith, rules}
+use Rattle.std.proofs.Common.{Bor, Iter, ◌≡◌, ℕ, ◌+◌, ◌-◌, ◌*◌, ◌<◌, ◌≤◌, Bool, true, false, cond, ◌&&◌, ltb, List, [], ◌∷◌, length, get_or, Some, None, decimal, Option, sym, refl, ap, ◌∙◌, subst, inl, inr, arith, rules}
 use Rattle.std.proofs.lemmas.Fmt.{decimal-digits_value, decimal_digit, digits_decimal, digits_value-decimal, first_decimal}
-use Rattle.std.proofs.lemmas.List.{at_drop_more, at_drop_all}
+use denote.Param.Members.{Mut}
+use Rattle.std.proofs.iter.Yields.{fronts}
+use Rattle.std.specs.Fn.{Called}
+use Rattle.std.specs.Iterator.{Yields}
+use Rattle.std.specs.List.{FoldsTo}
+use Rattle.std.specs.Option.{MatchOption}
+use Rattle.std.proofs.lemmas.List.{nil_from_length}
 use Rattle.std.proofs.lemmas.Str.Parse.{IsNumeralModel, numerals_by_fold}
 use Rattle.std.proofs.lemmas.Bool.{false≢true, both_ways, cases_Bool, cases_eq, cond-true, cond-false}
 use Rattle.std.proofs.lemmas.Bool.Decides.{nat_tests}
@@ -36,7 +42,7 @@ abbrev fitting : ℕ → List ℕ → Bool
 fitting n bs = digits bs && ltb (read_on n bs) 4294967296
 
 -- what is read of the digits bs after n
-abbrev rest : ℕ → List ℕ → Option ℕ
+abbrev pub rest : ℕ → List ℕ → Option ℕ
 rest n bs = cond (fitting n bs) (Some (read_on n bs)) None
 
 -- a decimal passes each test
@@ -83,26 +89,38 @@ rest_none n b bs e = let g = grows (n * 10 + (b - 48)) bs in grind (arith, nat_t
 rest_end : (n : ℕ) → n < 4294967296 → Some n ≡ rest n []
 rest_end n h = grind (arith, nat_tests)
 
--- at i, with n read so far: what is left decides
-abbrev pub Reading : List ℕ → ℕ → ℕ → Type 0
-Reading bs i n = (n < 4294967296) × (rest n (drop i bs) ≡ numeral bs)
-
 -- what is not led is no number
 pub unled : (bs : List ℕ) → false ≡ led bs → None ≡ numeral bs
 unled bs e = rw (← e)
 
--- what the loop finds as it begins, at a digit, at what ends the reading, and at the end of the entry
-pub begins : (bs : List ℕ) → true ≡ led bs → Reading bs 0 0
-begins bs e = (omega arith, rw (← e))
+-- the bytes of what is led decide
+pub begins : (bs : List ℕ) → true ≡ led bs → rest 0 bs ≡ numeral bs
+begins bs e = rw (← e)
 
-pub goes_on :
-    (bs : List ℕ) (i n m : ℕ) → Reading bs i n → i < length bs → Some m ≡ grown n (get_or bs i 0) → Reading bs (i + 1) m
-goes_on bs i n m s h e =
-    let r = rest_more n (get_or bs i 0) m (drop (i + 1) bs) e in
-    (r.0, r.1 ∙ sym (at_drop_more (rest n) bs i 0 h) ∙ s.1)
+-- bytes that a closure reads one after the other, as long as each is a digit with which the number fits
+module _ {F : Type 0} (g : Mut F (ℕ × (Bor ℕ × Unit {0})) (Option ℕ)) where
+  abbrev Turn : F × ℕ → Bor ℕ → F × ℕ → Type 0
+  Turn p x q = (v : Option ℕ) × Called g p.0 (p.1, (x, tt)) v q.0 × (v ≡ Some q.1)
 
-pub stops : (bs : List ℕ) (i n : ℕ) → Reading bs i n → i < length bs → None ≡ grown n (get_or bs i 0) → None ≡ numeral bs
-stops bs i n s h e = rest_none n (get_or bs i 0) (drop (i + 1) bs) e ∙ sym (at_drop_more (rest n) bs i 0 h) ∙ s.1
+  abbrev Stop : Type 0 → F → ℕ → Option ℕ → Bor ℕ → Type 0
+  Stop E p n r x = (v : Option ℕ) × (q : F) × E × Called g p (n, (x, tt)) v q × (v ≡ None) × (r ≡ None)
 
-pub ends : (bs : List ℕ) (i n : ℕ) → Reading bs i n → length bs ≤ i → Some n ≡ numeral bs
-ends bs i n s h = rest_end n s.0 ∙ sym (at_drop_all (rest n) bs i h) ∙ s.1
+  pub reads :
+      (E : Type 0) (p : F) (n : ℕ) (s t u : Iter ℕ) (q : F) (m : ℕ) (r : Option ℕ) (xs : List (Bor ℕ)) (o : Option (Bor ℕ))
+      → ((p : F) (n : ℕ) (x : Bor ℕ) (v : Option ℕ) (q : F) → Called g p (n, (x, tt)) v q → v ≡ grown n x.now)
+      → n < 4294967296 → Yields fronts s xs t → fronts t o u → FoldsTo Turn (p, n) xs (q, m)
+      → MatchOption o (r ≡ Some m) (Stop E q m r) → r ≡ rest n s.rest.now
+  reads E p n s t u q m r [] None k h y f d e =
+      let same : n ≡ m = ap (λ z. z.1) d in
+      let empty : s.rest.now ≡ [] = ap (λ (i : Iter ℕ). i.rest.now) y ∙ nil_from_length t.rest.now f.0 in
+      e ∙ ap Some (sym same) ∙ rest_end n h ∙ ap (rest n) (sym empty)
+  reads E p n s t u q m r [] (Some x) k h y f d e =
+      let same : n ≡ m = ap (λ z. z.1) d in
+      let bytes : s.rest.now ≡ x.now ∷ u.rest.now = ap (λ (i : Iter ℕ). i.rest.now) y ∙ f in
+      let none : None ≡ grown n x.now = sym e.4 ∙ k q m x e.0 e.1 e.3 ∙ ap (λ (z : ℕ). grown z x.now) (sym same) in
+      e.5 ∙ rest_none n x.now u.rest.now none ∙ ap (rest n) (sym bytes)
+  reads E p n s t u q m r (x ∷ xs) o k h y f d e =
+      let turn = d.1 in
+      let some : Some d.0.1 ≡ grown n x.now = sym turn.2 ∙ k p n x turn.0 d.0.0 turn.1 in
+      let more = rest_more n x.now d.0.1 y.0.rest.now some in
+      reads E d.0.0 d.0.1 y.0 t u q m r xs o k more.0 y.2 f d.2 e ∙ more.1 ∙ ap (rest n) (sym y.1)

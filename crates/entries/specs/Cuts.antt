@@ -1,5 +1,6 @@
 -- How a text is cut into lines, and a line into entries.
-use Rattle.std.specs.Prelude.{ℕ, Bool, true, false, List, [], ◌∷◌, Some, None, Option, ◌==◌}
+use Rattle.std.specs.Prelude.{ℕ, Bool, true, false, List, [], ◌∷◌, Some, None, Option, ◌==◌, ◌-◌, length, take}
+use Rattle.std.specs.List.{slice_split}
 
 -- The bytes before the first `at`, or all of them.
 abbrev pub head : ℕ → List ℕ → List ℕ
@@ -69,3 +70,16 @@ rest_in (Some bs) whole = spaced_rest (tail 32 bs) whole bs
 
 abbrev pub entries_after : Remains → Remains
 entries_after l = record { bytes = rest_in l.bytes l.whole; whole = l.whole }
+
+-- The entries that are left to read of a line, in order: its bytes cut at each space. Where it is cut off, the last of them
+-- is not whole.
+abbrev spaced_out : List ℕ → List (List ℕ)
+spaced_out bs = slice_split (λ b. b == 32) bs
+
+abbrev entries_in : Option (List ℕ) → Bool → List (List ℕ)
+entries_in None whole = []
+entries_in (Some bs) true = spaced_out bs
+entries_in (Some bs) false = take (length (spaced_out bs) - 1) (spaced_out bs)
+
+abbrev pub entries : Remains → List (List ℕ)
+entries l = entries_in l.bytes l.whole

@@ -8,10 +8,8 @@ pub fn cut_at(text: &[u8], at: u8) -> (&[u8], Option<&[u8]>)
     ensures head { result.0.now ≡ head at text.now }
     ensures tail { option_map (λ x. x.now) result.1 ≡ tail at text.now }
 {
-    for (i, b) in text.iter().enumerate() {
-        if *b == at {
-            return (&text[0..i], Some(&text[i + 1..]));
-        }
+    match text.iter().position(|byte| *byte == at) {
+        Some(place) => (&text[..place], Some(&text[place + 1..])),
+        None => (text, None),
     }
-    (text, None)
 }

@@ -1,7 +1,9 @@
 // The lines of a text, and the entries of a line.
 ghost use Rattle.std.specs.Prelude.{◌≡◌, not, length, is_some, ◌==◌};
 ghost use Rattle.std.specs.Option.{option_map};
-ghost use Rattle.entries.specs.Cuts.{line, lines_after, entry, entries_after};
+ghost use Rattle.std.specs.Iterator.{YieldsFirstRef, item_count};
+ghost use Rattle.entries.specs.Cuts.{line, lines_after, entry, entries_after, entries};
+ghost use Rattle.entries.specs.Lines.{remains};
 
 use crate::cut::cut_at;
 
@@ -12,7 +14,7 @@ pub struct Lines<'a> {
 }
 
 // What is left to read of a line: its bytes from the next entry on, none where all have been read; and whether it
-// ends with byte 10.
+// ends with byte 10. The two are no enum, since an entry is cut from the bytes of a whole line and of any other alike.
 #[derive(Drop)]
 pub struct Line<'a> {
     rest: Option<&'a [u8]>,
@@ -59,8 +61,8 @@ impl<'a> Lines<'a> {
 impl<'a> Line<'a> {
     // The next entry that is whole, if there is one.
     pub fn next_entry(&mut self) -> Option<&'a [u8]>
-        ensures value { option_map (λ x. x.now) result ≡ entry (record { bytes = option_map (λ x. x.now) self.old.rest; whole = self.old.whole }) }
-        ensures bytes { option_map (λ x. x.now) self.new.rest ≡ (entries_after (record { bytes = option_map (λ x. x.now) self.old.rest; whole = self.old.whole })).bytes }
+        ensures value { option_map (λ x. x.now) result ≡ entry (remains self.old) }
+        ensures bytes { option_map (λ x. x.now) self.new.rest ≡ (entries_after (remains self.old)).bytes }
         ensures whole { self.new.whole ≡ self.old.whole }
     {
         let bytes = self.rest?;
@@ -82,5 +84,18 @@ impl<'a> Line<'a> {
         ensures value { result ≡ not (is_some self.now.rest) }
     {
         self.rest.is_none()
+    }
+}
+
+// The entries that are whole, in order.
+impl<'a> Iterator for Line<'a> {
+    type Item = &'a [u8];
+
+    ghost next_gives = { YieldsFirstRef (λ l. entries (remains l)) };
+
+    ghost remaining = { item_count (λ l. entries (remains l)) };
+
+    fn next(&mut self) -> Option<&'a [u8]> {
+        self.next_entry()
     }
 }

@@ -1,37 +1,20 @@
 // Numbers as the texts write them.
 ghost use Rattle.std.specs.Prelude.{◌≡◌};
-ghost use Rattle.entries.specs.Numbers.{digit, led, grown, numeral, Right};
-
-// Whether a byte is a digit.
-fn is_digit(byte: u8) -> bool
-    ensures value { result ≡ digit byte }
-{
-    byte >= b'0' && byte <= b'9'
-}
+ghost use Rattle.entries.specs.Numbers.{led, grown, numeral, Right};
 
 // Whether an entry begins as a number does: it is not empty, and has no leading zero save 0 itself.
 fn is_led(entry: &[u8]) -> bool
     ensures value { result ≡ led entry.now }
 {
-    match entry {
-        [] => false,
-        [_] => true,
-        [first, ..] => *first != b'0',
-    }
+    !matches!(entry, [] | [b'0', _, ..])
 }
 
 // The number that digits stand for, with the next digit read too, if it is one and the number still fits.
 fn read_on(value: u32, byte: u8) -> Option<u32>
     ensures value { result ≡ grown value byte }
 {
-    if !is_digit(byte) {
-        return None;
-    }
-    let value = u64::from(value) * 10 + u64::from(byte - b'0');
-    if value > 4294967295 {
-        return None;
-    }
-    Some(value as u32)
+    let digit = char::from(byte).to_digit(10)?;
+    value.checked_mul(10)?.checked_add(digit)
 }
 
 // The number that an entry stands for, if it is one: v exactly if the bytes are the decimal of v.
@@ -42,9 +25,7 @@ pub fn number(entry: &[u8]) -> Option<u32>
     if !is_led(entry) {
         return None;
     }
-    let mut value = 0;
-    for b in entry {
-        value = read_on(value, *b)?;
-    }
-    Some(value)
+    entry
+        .iter()
+        .try_fold(0, |value, byte| read_on(value, *byte))
 }

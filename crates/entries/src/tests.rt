@@ -45,3 +45,15 @@ fn lines_are_cut_into_entries(rt: HostRuntime) {
     assert!(rt; !line.is_spent());
     assert!(rt; lines.is_spent());
 }
+
+#[test]
+fn a_line_gives_its_whole_entries(rt: HostRuntime) {
+    let mut lines = Lines::new(b"1 20 300\n\n7 8");
+    let mut last = None;
+    for entry in lines.next_line() {
+        last = number(entry);
+    }
+    assert_eq!(rt; last, Some(300));
+    assert_eq!(rt; lines.next_line().count(), 0);
+    assert_eq!(rt; lines.next_line().count(), 1);
+}

@@ -1,5 +1,5 @@
 -- The words of a shelf, as a list: place i holds the i-th.
-use Rattle.std.specs.Prelude.{ℕ, ◌+◌, ◌*◌, ◌/◌, ◌%◌, ◌<◌, cond, List, [], ◌∷◌, ◌++◌, map, length, take, Some, None, Option, nat_lt, slice_index, slice_index_or}
+use Rattle.std.specs.Prelude.{ℕ, ◌+◌, ◌*◌, ◌/◌, ◌%◌, ◌<◌, cond, List, [], ◌∷◌, ◌++◌, length, take, Some, None, Option, nat_lt, slice_index}
 
 -- The word at a place. A place outside has no word to give.
 abbrev pub at : List ℕ → ℕ → Option ℕ
@@ -17,14 +17,12 @@ word bytes = slice_index bytes 0 * 16777216 + slice_index bytes 1 * 65536 + slic
 abbrev pub bytes_of : ℕ → List ℕ
 bytes_of n = (n / 16777216 % 256) ∷ (n / 65536 % 256) ∷ (n / 256 % 256) ∷ (n % 256) ∷ []
 
--- Four bytes a word, for each word of a list.
-abbrev pub unpacked : List (List ℕ) → List ℕ
-unpacked cells = map word cells
-
--- Each is a byte.
-abbrev pub Bytes : List (List ℕ) → Type 0
-Bytes cells = (place i : ℕ) → slice_index (slice_index_or cells place []) i < 256
-
 -- The places of one shelf, then those of another, up to 65,536.
 abbrev pub joined : List ℕ → List ℕ → List ℕ
 joined first second = take 65536 (first ++ second)
+
+-- First word i put at place i; the other places stay.
+abbrev pub over : List ℕ → List ℕ → List ℕ
+over [] words = words
+over (f ∷ fs) [] = []
+over (f ∷ fs) (w ∷ ws) = f ∷ over fs ws

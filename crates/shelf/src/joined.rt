@@ -1,5 +1,5 @@
 // Two shelves end to end.
-ghost use Rattle.std.specs.Prelude.{◌≡◌, ◌+◌, ◌≤◌, min};
+ghost use Rattle.std.specs.Prelude.{◌≡◌, length};
 ghost use Rattle.shelf.specs.Sides.{Leads, side};
 ghost use Rattle.shelf.specs.Words.{joined};
 ghost use Rattle.shelf.specs.SidesLemmas.{joined_few, joined_fit};
@@ -29,36 +29,23 @@ impl<A, B> JoinedShelf<A, B> {
 enum Side {
     First(usize),
     Second(usize),
-    Outside,
-}
-
-// The side of a place, where the first shelf has `size` places.
-fn side_of(size: usize, place: usize) -> Side
-    ensures { result ≡ side size place }
-{
-    if place >= LIMIT {
-        Side::Outside
-    } else if place < size {
-        Side::First(place)
-    } else {
-        Side::Second(place - size)
-    }
-}
-
-// How many places two shelves of so many have end to end.
-fn size_of_both(first: usize, second: usize) -> usize
-    requires { (first ≤ 65536) × (second ≤ 65536) }
-    ensures { result ≡ min (first + second) 65536 }
-{
-    (first + second).min(LIMIT)
 }
 
 impl<A: Shelf, B: Shelf> JoinedShelf<A, B> {
-    // The side of a place, where a get and a put do what they should do at the place of the two.
-    fn side(&self, place: usize) -> Side
-        ensures { Leads (A.Shelf.words self.now.first) (B.Shelf.words self.now.second) place result }
+    // The side of a place, where a get and a put do what they should do at the place of the two. A place beyond the most
+    // lies on neither.
+    fn side(&self, place: usize) -> Option<Side>
+        ensures value { result ≡ side (length (A.Shelf.words self.now.first)) place }
+        ensures leads { Leads (A.Shelf.words self.now.first) (B.Shelf.words self.now.second) place result }
     {
-        side_of(self.first.size(), place)
+        let size = self.first.size();
+        if place >= LIMIT {
+            None
+        } else if place < size {
+            Some(Side::First(place))
+        } else {
+            Some(Side::Second(place - size))
+        }
     }
 }
 
@@ -70,22 +57,21 @@ impl<A: Shelf, B: Shelf> Shelf for JoinedShelf<A, B> {
     ghost fit = { λ s. joined_fit _ _ (A.Shelf.fit s.first) (B.Shelf.fit s.second) };
 
     fn size(&self) -> usize {
-        size_of_both(self.first.size(), self.second.size())
+        (self.first.size() + self.second.size()).min(LIMIT)
     }
 
     fn get(&self, place: usize) -> Option<u32> {
-        match self.side(place) {
+        match self.side(place)? {
             Side::First(at) => self.first.get(at),
             Side::Second(at) => self.second.get(at),
-            Side::Outside => None,
         }
     }
 
     fn put(&mut self, place: usize, word: u32) -> bool {
         match self.side(place) {
-            Side::First(at) => self.first.put(at, word),
-            Side::Second(at) => self.second.put(at, word),
-            Side::Outside => false,
+            Some(Side::First(at)) => self.first.put(at, word),
+            Some(Side::Second(at)) => self.second.put(at, word),
+            None => false,
         }
     }
 }

@@ -73,3 +73,20 @@ fn three_shelves_stand_end_to_end(rt: HostRuntime) -> Result<(), Fail> {
     }
     Ok(())
 }
+
+#[test]
+fn words_are_laid_from_the_first_place_on(rt: HostRuntime) -> Result<(), Fail> {
+    let mut shelf = JoinedShelf::new(
+        WordShelf::new(rt.alloc(), 1)?,
+        PackedShelf::new(rt.alloc(), 2)?,
+    );
+    lay(&mut shelf, &[7, 8]);
+    assert_eq!(rt; shelf.get(0), Some(7));
+    assert_eq!(rt; shelf.get(1), Some(8));
+    assert_eq!(rt; shelf.get(2), Some(0));
+    lay(&mut shelf, &[1, 2, 3, 4]);
+    assert_eq!(rt; shelf.get(0), Some(1));
+    assert_eq!(rt; shelf.get(2), Some(3));
+    assert_eq!(rt; shelf.get(3), None);
+    Ok(())
+}

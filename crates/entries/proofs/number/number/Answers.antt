@@ -1,5 +1,5 @@
-use Rattle.std.proofs.Common.{Some, None, ◌∙◌}
-use Rattle.entries.proofs.Numbers.{right, unled, begins, goes_on, stops, ends}
+use Rattle.std.proofs.Common.{None, ◌∙◌, ap, rules, arith}
+use Rattle.entries.proofs.Numbers.{right, unled, begins, rest, reads}
 use Rattle.entries.proofs.number.number.Goals as goal
 
 pub returns-then-not-is_led : goal.returns-then-not-is_led
@@ -8,25 +8,14 @@ returns-then-not-is_led c =
     let e = unled bs c.if-not-is_led.ensures.value in
     record { value = e; right = right bs None e }
 
-pub loop-b-init : goal.loop-b-init
-loop-b-init c = begins c.args.entry.now c.if-not-is_led.ensures.value
-
-pub loop-b-preserved : goal.loop-b-preserved
-loop-b-preserved c =
-    goes_on c.args.entry.now c.loop-b.b-index c.loop-b.value c.in_ok-value.value c.loop-b.invariant
-    c.loop-b-test.true c.in_ok-value.ensures.value
-
-pub returns-in_err-value : goal.returns-in_err-value
-returns-in_err-value c =
-    let bs = c.args.entry.now in
-    let e =
-    c.from_residual.ensures
-    ∙ stops bs c.loop-b.b-index c.loop-b.value c.loop-b.invariant c.loop-b-test.true c.in_err-value.ensures.value
-    in
-    record { value = e; right = right bs c.from_residual.result e }
-
 pub returns : goal.returns
 returns c =
     let bs = c.args.entry.now in
-    let e = ends bs c.loop-b.b-index c.loop-b.value c.loop-b.invariant c.loop-b-test.false in
-    record { value = e; right = right bs (Some c.loop-b.value) e }
+    let ran = c.try_fold.ensures.ran in
+    let e =
+    reads _ _ tt 0 c.iter.result ran.4.0 c.try_fold.new.self ran.2 ran.3 c.try_fold.result ran.0 ran.1 (λ p n x v q k. search rules)
+    (omega arith) ran.4.1 ran.4.2 ran.5 ran.6
+    ∙ ap (rest 0) c.iter.ensures.rest
+    ∙ begins bs c.if-not-is_led.ensures.value
+    in
+    record { value = e; right = right bs c.try_fold.result e }
