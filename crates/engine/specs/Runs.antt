@@ -7,7 +7,7 @@ use Rattle.ledger.specs.declared.refusal.Refusal.{Refusal}
 use Rattle.ledger.specs.Refusals.{refusal}
 use Rattle.ledger.specs.Ledgers.{together}
 use Rattle.ledger.specs.Promises.{Promise}
-use Rattle.tables.specs.Views.{over}
+use Rattle.shelf.specs.Words.{over}
 use Rattle.engine.specs.States.{nothing_yet}
 
 -- The laying, on a shelf with the words `before`, was refused as the table says, and the shelf's words stay; or it was done,

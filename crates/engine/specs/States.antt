@@ -18,7 +18,8 @@ use Rattle.ledger.specs.Promises.{Promise}
 use Rattle.ledger.specs.Models.{Model, fresh, serve, history, served}
 use Rattle.tables.specs.declared.kernel.Core.{Core}
 use Rattle.engine.specs.declared.engine.Engine.{Engine}
-use Rattle.tables.specs.Views.{model, words_on, over}
+use Rattle.shelf.specs.Words.{over}
+use Rattle.tables.specs.Views.{model, words_on}
 
 -- An engine that is not laid out has only the words of its shelf; one that is has a parents table and a model.
 pub data State : Type 0 where

@@ -1,5 +1,5 @@
--- Tables with no job in them, and first words put one after the other.
-use Rattle.std.proofs.Common.{◌≡◌, ℕ, zero, suc, ◌+◌, ◌<◌, List, [], ◌∷◌, length, get_or, take, set, replicate, sym, refl, ap, ◌∙◌, add-one, arith}
+-- Tables with no job in them.
+use Rattle.std.proofs.Common.{◌≡◌, ℕ, List, get_or, replicate, refl, ap, ◌∙◌}
 use Rattle.ledger.specs.declared.job.Note.{Note}
 use Rattle.ledger.specs.declared.job.Note.TheVariants.{Nothing}
 use Rattle.ledger.specs.declared.job.Status.{Status}
@@ -10,7 +10,7 @@ use Rattle.tables.specs.declared.grid.Grid.{Grid}
 use Rattle.tables.specs.declared.seats.Seats.{Seats}
 use Rattle.tables.specs.Grids.{cell}
 use Rattle.tables.specs.Seats.{slot}
-use Rattle.tables.specs.Views.{whole, over, numbers_of, states_of}
+use Rattle.tables.specs.Views.{whole, numbers_of, states_of}
 use Rattle.tables.proofs.Grids.{empty, empty_cell}
 use Rattle.tables.proofs.Wounds.{model_eq}
 
@@ -30,14 +30,3 @@ blank_view ws seats held noted s o h n =
     (λ k x. nothing_held held.modes.rows h (slot (numbers_of seats) k) x)
     refl
     (λ k r. nothing_noted noted.rows n (slot (numbers_of seats) k) r)
-
-over_next : (fs ws : List ℕ) (i : ℕ) → i < length fs → set (over (take i fs) ws) i (get_or fs i 0) ≡ over (take (suc i) fs) ws
-over_next [] ws i l = absurd (omega arith)
-over_next (f ∷ fs) [] zero l = refl
-over_next (f ∷ fs) (w ∷ ws) zero l = refl
-over_next (f ∷ fs) [] (suc i) l = refl
-over_next (f ∷ fs) (w ∷ ws) (suc i) l = ap (λ (xs : List ℕ). f ∷ xs) (over_next fs ws i (omega arith))
-
--- one first word more
-pub over_more : (fs ws : List ℕ) (i : ℕ) → i < length fs → set (over (take i fs) ws) i (get_or fs i 0) ≡ over (take (i + 1) fs) ws
-over_more fs ws i l = over_next fs ws i l ∙ ap (λ (n : ℕ). over (take n fs) ws) (sym (add-one i))

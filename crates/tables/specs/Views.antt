@@ -40,12 +40,6 @@ whole words seats held noted = record { jobs = jobs_of seats held; words = words
 abbrev pub words_on : {M S : Type 0} → (S → List ℕ) → Core M S → List ℕ
 words_on words c = words c.shelf
 
--- First word i put at place i; the other places stay.
-abbrev pub over : List ℕ → List ℕ → List ℕ
-over [] words = words
-over (f ∷ fs) [] = []
-over (f ∷ fs) (w ∷ ws) = f ∷ over fs ws
-
 -- The model of all that is kept.
 abbrev pub model : {M S : Type 0} → (S → List ℕ) → Core M S → Model
 model words c = whole (words c.shelf) c.seats c.held c.noted

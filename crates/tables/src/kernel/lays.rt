@@ -1,7 +1,8 @@
 // The tables before any call.
 ghost use Rattle.std.specs.Prelude.{◌≡◌};
+ghost use Rattle.shelf.specs.Words.{over};
 ghost use Rattle.ledger.specs.Models.{fresh};
-ghost use Rattle.tables.specs.Views.{model, words_on, over};
+ghost use Rattle.tables.specs.Views.{model, words_on};
 
 use super::Core;
 use crate::grid::Grid;
@@ -37,8 +38,6 @@ impl<M, S: Shelf> Core<M, S> {
         self.seats = Seats::new();
         self.held = Held::new();
         self.noted = Grid::filled(Note::Nothing);
-        for (place, word) in words.iter().enumerate() {
-            let _ = self.shelf.put(place, *word);
-        }
+        shelf::lay(&mut self.shelf, words);
     }
 }

@@ -48,6 +48,7 @@ impl Seats {
     }
 
     // The first free slot.
+    #[tactic(auto, using(crate::proofs::Sitting::free_place))]
     pub(crate) fn free_seat(&self) -> Option<Seat>
         ensures value { option_map (λ s. s.slot) result ≡ seated (place (numbers_of self.now) 0) }
     {
@@ -55,6 +56,7 @@ impl Seats {
     }
 
     // The slot of a job.
+    #[tactic(auto, using(crate::proofs::Sitting::place_of))]
     pub(crate) fn seat_of(&self, job: u32) -> Option<Seat>
         ensures value { option_map (λ s. s.slot) result ≡ seated (slot (numbers_of self.now) job) }
     {
@@ -98,6 +100,7 @@ impl Seats {
     }
 
     // The oldest job that is younger than a number.
+    #[tactic(auto, using(crate::proofs::Sitting::least_above))]
     pub fn next_above(&self, number: u32) -> Option<u32>
         ensures value { result ≡ given (next_above number (numbers_of self.now)) }
     {

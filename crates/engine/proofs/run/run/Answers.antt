@@ -6,7 +6,7 @@ use Rattle.ledger.specs.declared.call.Call.TheVariants.{Lay}
 use Rattle.ledger.specs.Ledgers.{together}
 use Rattle.ledger.specs.Promises.{Promise}
 use Rattle.engine.specs.States.{State, step, state, words_of, Keeps}
-use Rattle.tables.specs.Views.{over}
+use Rattle.shelf.specs.Words.{over}
 use Rattle.engine.proofs.Runs.{run_more}
 use Rattle.engine.proofs.Serves.{Follows, Began, begins, lay_refused, follows_promise}
 use Rattle.engine.proofs.run.run.Goals as goal
