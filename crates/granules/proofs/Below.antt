@@ -50,7 +50,7 @@ some_more i f = rw add-one
 pub sum_more : (i : ℕ) (f : ℕ → Bool) (figure : ℕ → ℕ) → sum_below (i + 1) f figure ≡ sum_below i f figure + cond (f i) (figure i) 0
 sum_more i f figure = rw add-one
 
-never : (b : Bool) → (b ≡ true → ⊥) → b ≡ false
+pub never : (b : Bool) → (b ≡ true → ⊥) → b ≡ false
 never true h = absurd (h refl)
 never false h = refl
 

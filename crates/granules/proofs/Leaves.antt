@@ -1,6 +1,7 @@
 -- The flags of granules that are nobody's parent, marked off one child after the other.
-use Rattle.std.proofs.Common.{◌≡◌, ℕ, ◌+◌, ◌<◌, ◌≤◌, Bool, true, false, not, ◌&&◌, ◌||◌, eqb, ltb, List, length, get_or, set, sym, refl, ap, ◌∙◌, inl, inr, arith}
-use Rattle.std.proofs.lemmas.List.{get_or-set_same, get_or-set_other}
+use Rattle.std.proofs.Common.{◌≡◌, ℕ, zero, suc, ◌+◌, ◌<◌, ◌≤◌, Bool, true, false, not, ◌&&◌, ◌||◌, eqb, ltb, List, [], ◌∷◌, length, get_or, map, drop, replicate, set, sym, refl, ap, ◌∙◌, subst, inl, inr, add-one, arith}
+use Rattle.granules.specs.declared.tree.Node.{Node}
+use Rattle.std.proofs.lemmas.List.{get_or_default, get_or-set_same, get_or-set_other}
 use Rattle.std.proofs.lemmas.Bool.{cases_eq, and_from, and_left, and_right, or_right, ne_eqb, eq-eqb, lt-ltb, le-ltb}
 use Rattle.granules.specs.Below.{some_below}
 use Rattle.granules.specs.Paths.{parent, has_child, is_record}
@@ -49,3 +50,19 @@ marked_more ps free i l full m k h =
 pub record_free : (ps : List ℕ) (g : ℕ) → g < length ps → not (some_below (length ps) (child_of ps g)) ≡ is_record ps g
 unfolding is_record
 record_free ps g l = ap (λ (b : Bool). b && not (has_child ps g)) (sym (lt-ltb g (length ps) l))
+
+-- before any is marked off, all of a list of leaves are left
+pub all_left : (ps : List ℕ) (n : ℕ) (node : Node) → node.leaf ≡ true → (k : ℕ) → k < n → get_or (map (λ m. m.leaf) (replicate n node)) k false ≡ true
+all_left ps zero node e k h = absurd (omega arith)
+all_left ps (suc n) node e zero h = e
+all_left ps (suc n) node e (suc k) h = all_left ps n node e k (omega arith)
+
+-- the nth of the entries after the root's
+pub nth_child : (ps : List ℕ) (n p : ℕ) → n < length (drop 1 ps) → p ≡ get_or (drop 1 ps) n p → (n + 1 < length ps) × (p ≡ parent ps (n + 1))
+nth_child [] n p l e = absurd (omega arith)
+nth_child (x ∷ xs) n p l e = (omega arith, e ∙ get_or_default xs n p 0 l ∙ rw add-one)
+
+-- no child is left where all entries are gone through, the root's too where there is one
+pub marked_all : (ps : List ℕ) (free : List Bool) (n : ℕ) → n ≡ length (drop 1 ps) → Marked ps free (n + 1) → Marked ps free (length ps)
+marked_all [] free n e m = λ k h. m k h ∙ ap (λ (i : ℕ). not (some_below (i + 1) (child_of [] k))) e
+marked_all (x ∷ xs) free n e m = let i : n + 1 ≡ length (x ∷ xs) = omega arith in subst (λ (j : ℕ). Marked (x ∷ xs) free j) i m

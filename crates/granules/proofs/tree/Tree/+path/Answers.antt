@@ -28,19 +28,19 @@ path-requires t c =
     let s = c.args.self.now in
     (omega (arith, tree_falls s c.args.granule (omega arith), c.parent.ensures.value), tt)
 
-pub extended-requires : goal.extended-requires
-extended-requires t c =
+pub then-requires : goal.then-requires
+then-requires t c =
     let s = c.args.self.now in
     let room = path_room (table s) (tree_falls s) s.shallow c.args.granule (omega arith) in
     let up = path_above s c.args.granule c.parent.result (steps c.path.result) (omega arith) (omega arith) c.parent.ensures.value c.path.ensures.value in
-    record { room = omega (arith, long c.path.result, ap length up); byte = omega arith }
+    omega (arith, long c.path.result, ap length up)
 
 pub returns : goal.returns
 returns t c =
     let s = c.args.self.now in
     record {
       value =
-          c.extended.ensures.value
+          c.then.ensures.value
           ∙ ap (λ (xs : List ℕ). xs ++ c.args.granule ∷ [])
           (path_above s c.args.granule c.parent.result (steps c.path.result) (omega arith) (omega arith) c.parent.ensures.value c.path.ensures.value)
           ∙ sym (path_step (table s) (tree_falls s) c.args.granule (omega arith))
