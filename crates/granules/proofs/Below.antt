@@ -12,22 +12,6 @@ each_at (suc n) f t k h =
       | inr e ↦ each_at n f both.0 k (omega arith)
     ]
 
-pub each_from : (n : ℕ) (f : ℕ → Bool) → ((k : ℕ) → k < n → f k ≡ true) → each_below n f ≡ true
-each_from zero f h = refl
-each_from (suc n) f h = and_from (each_below n f) (f n) (each_from n f (λ k l. h k (omega arith))) (h n (omega arith))
-
-pub each_fails : (n : ℕ) (f : ℕ → Bool) (k : ℕ) → k < n → f k ≡ false → each_below n f ≡ false
-each_fails zero f k h e = absurd (omega arith)
-each_fails (suc n) f k h e =
-    elim (cases_eq k n) [
-      | inl s ↦ and_right (each_below n f) (f n) (subst (λ (m : ℕ). f m ≡ false) s e)
-      | inr s ↦ and_left (each_below n f) (f n) (each_fails n f k (omega arith) e)
-    ]
-
--- a loop's step
-pub each_more : (i : ℕ) (f : ℕ → Bool) → each_below i f ≡ true → f i ≡ true → each_below (i + 1) f ≡ true
-each_more i f a b = rw add-one (and_from (each_below i f) (f i) a b)
-
 pub some_at : (n : ℕ) (f : ℕ → Bool) → some_below n f ≡ true → (k : ℕ) × (k < n) × (f k ≡ true)
 some_at zero f t = absurd (both_ways false refl t)
 some_at (suc n) f t =

@@ -192,12 +192,6 @@ other_span ps f g k b =
     let p = and_parts (is_record ps k) (beneath ps g k) b in
     (beneath_le ps f g k p.1, (record_parts ps k p.0).0)
 
-pub span_record : (ps : List ℕ) (g : ℕ) → is_record ps g ≡ true → span ps g ≡ (g, g + 1)
-span_record ps g e = rw (e, span)
-
-pub span_other : (ps : List ℕ) (g : ℕ) → is_record ps g ≡ false → span ps g ≡ (g, length ps)
-span_other ps g e = rw (e, span)
-
 -- Beneath each granule lies a record: itself, or one beneath a child.
 pub some_record : (ps : List ℕ) → Falls ps → (g : ℕ) → g < length ps → (r : ℕ) × (r < length ps) × (record_beneath ps g r ≡ true)
 some_record ps f g l = go (length ps) g l (omega arith)

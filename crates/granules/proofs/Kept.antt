@@ -15,28 +15,6 @@ size t = length-take-le t.granules (map (λ n. n.parent) t.nodes) (omega (arith,
 pub long : (p : Path) → length (steps p) ≡ p.len
 long p = length-take-le p.len p.granules (omega (arith, p.few, p.full))
 
--- the first entries of a table of nodes, and one of them
-nodes_long : (t : Tree) → length (take t.granules t.nodes) ≡ t.granules
-nodes_long t = length-take-le t.granules t.nodes (omega (arith, t.few, t.full))
-
-pub node_past : (t : Tree) (g : ℕ) → length (take t.granules t.nodes) ≤ g → length (table t) ≤ g
-node_past t g l = omega (arith, size t, nodes_long t)
-
-pub node_at :
-    (t : Tree) (g : ℕ) (n : Node) → g < length (take t.granules t.nodes) → n ≡ get_or (take t.granules t.nodes) g n
-    → (n.parent ≡ parent (table t) g) × (n.leaf ≡ is_record (table t) g)
-node_at t g n l e =
-    let inside : g < t.granules = omega (arith, nodes_long t) in
-    let full : g < length t.nodes = omega (arith, t.few, t.full) in
-    let same : n ≡ get_or t.nodes g n = e ∙ get_or-take t.granules t.nodes g n inside in (
-      ap (λ (m : Node). m.parent) same
-          ∙ sym (get_or-map (λ (m : Node). m.parent) t.nodes g n 0 full)
-          ∙ sym (get_or-take t.granules (map (λ (m : Node). m.parent) t.nodes) g 0 inside),
-      ap (λ (m : Node). m.leaf) same
-          ∙ sym (get_or-map (λ (m : Node). m.leaf) t.nodes g n false full)
-          ∙ t.leaves g inside,
-    )
-
 pub tree_falls : (t : Tree) → Falls (table t)
 tree_falls t = falls (table t) t.rooted
 

@@ -24,10 +24,6 @@ skip : (ps : List ℕ) (i k : ℕ) → child_of ps k i ≡ false → some_below 
 skip ps i k e =
     some_more i (child_of ps k) ∙ ap (λ (b : Bool). some_below i (child_of ps k) || b) e ∙ or_false (some_below i (child_of ps k))
 
-pub marked_root : (ps : List ℕ) (free : List Bool) (i : ℕ) → i ≤ 0 → Marked ps free i → Marked ps free (i + 1)
-marked_root ps free i z m k h =
-    m k h ∙ ap not (sym (skip ps i k (and_left (ltb 0 i) (eqb (parent ps i) k) (le-ltb 0 i z))))
-
 pub marked_more :
     (ps : List ℕ) (free : List Bool) (i : ℕ) → 0 < i → length free ≡ 256 → Marked ps free i → Marked ps (set free (parent ps i) false) (i + 1)
 marked_more ps free i l full m k h =
@@ -61,8 +57,3 @@ all_left ps (suc n) node e (suc k) h = all_left ps n node e k (omega arith)
 pub nth_child : (ps : List ℕ) (n p : ℕ) → n < length (drop 1 ps) → p ≡ get_or (drop 1 ps) n p → (n + 1 < length ps) × (p ≡ parent ps (n + 1))
 nth_child [] n p l e = absurd (omega arith)
 nth_child (x ∷ xs) n p l e = (omega arith, e ∙ get_or_default xs n p 0 l ∙ rw add-one)
-
--- no child is left where all entries are gone through, the root's too where there is one
-pub marked_all : (ps : List ℕ) (free : List Bool) (n : ℕ) → n ≡ length (drop 1 ps) → Marked ps free (n + 1) → Marked ps free (length ps)
-marked_all [] free n e m = λ k h. m k h ∙ ap (λ (i : ℕ). not (some_below (i + 1) (child_of [] k))) e
-marked_all (x ∷ xs) free n e m = let i : n + 1 ≡ length (x ∷ xs) = omega arith in subst (λ (j : ℕ). Marked (x ∷ xs) free j) i m

@@ -35,6 +35,7 @@ impl Tree {
         self.node(granule).map_or(0, |n| usize::from(n.parent))
     }
 
+    #[tactic(auto, using(crate::proofs::Climbs::record_outside))]
     pub fn is_record(&self, granule: usize) -> bool
         ensures value { result ≡ is_record (table self.now) granule }
     {

@@ -7,7 +7,7 @@ use Rattle.std.proofs.Math.Seq.{map-set_same}
 use Rattle.granules.specs.declared.tree.Node.{Node}
 use Rattle.granules.specs.Paths.{parent}
 use Rattle.granules.proofs.Climbs.{parent_small}
-use Rattle.granules.proofs.Leaves.{Marked, marked_more, marked_all, all_left, nth_child}
+use Rattle.granules.proofs.Leaves.{Marked, marked_more, all_left, nth_child}
 use Rattle.granules.proofs.tree.makes.kept.Goals as goal
 
 pub loop-g-init : goal.loop-g-init
