@@ -24,7 +24,7 @@ range_more n =
     let e : suc n ≡ n + 1 = omega arith in
     ap (range_with_len 0) e ∙ range_parts 0 n 1 ∙ ap (λ (x : ℕ). range_with_len 0 n ++ x ∷ []) (zero-add n)
 
-filter_more : (n : ℕ) (f : ℕ → Bool) → filter f (range_with_len 0 (suc n)) ≡ filter f (range_with_len 0 n) ++ cond (f n) (n ∷ []) []
+pub filter_more : (n : ℕ) (f : ℕ → Bool) → filter f (range_with_len 0 (suc n)) ≡ filter f (range_with_len 0 n) ++ cond (f n) (n ∷ []) []
 filter_more n f = ap (filter f) (range_more n) ∙ filter-append f (range_with_len 0 n) (n ∷ [])
 
 pub count_range : (n : ℕ) (f : ℕ → Bool) → length (filter f (range_with_len 0 n)) ≡ count_below n f

@@ -14,7 +14,7 @@ pub enum Unfit {
 }
 
 impl Unfit {
-    // The number by which callers know the refusal.
+    // The number by which callers know the refusal. It is no `From` for `u8`: there a call would not say which number.
     pub fn number(self) -> u8
         ensures value { result ≡ number self }
     {

@@ -1,5 +1,5 @@
 -- What an operation answers and what it leaves, over the list of all words of the shelf.
-use Rattle.std.specs.Prelude.{ℕ, suc, cond, List, [], ◌∷◌, length, slice_index}
+use Rattle.std.specs.Prelude.{ℕ, suc, cond, List, [], ◌∷◌, ◌++◌, length, slice_index, codes, decimal}
 use Rattle.granules.specs.Below.{sum_below}
 use Rattle.granules.specs.Paths.{record_beneath, records_beneath}
 use Rattle.operations.specs.declared.operation.Action.{Action}
@@ -23,6 +23,12 @@ told (Add w) s count = Done
 -- What an operation answers.
 abbrev pub answer : List ℕ → Operation → List ℕ → Outcome
 answer parents o words = told o.action (sum parents words o.granule) (records_beneath parents o.granule)
+
+-- An answer in writing.
+abbrev pub written : Outcome → List ℕ
+written (Figures s count) = codes "read " ++ (decimal s ++ (codes " " ++ decimal count))
+written (Average m) = codes "mean " ++ decimal m
+written Done = codes "done"
 
 -- The words changed place by place, from place i on.
 abbrev pub each_from : ℕ → (ℕ → ℕ → ℕ) → List ℕ → List ℕ

@@ -1,7 +1,5 @@
 // One operation carried out over a shelf. A place that the shelf does not have reads as 0 and takes no word.
-ghost use Rattle.std.specs.Prelude.{◌≡◌, ◌*◌, ◌≤◌};
-ghost use Rattle.std.specs.Option.{unwrap_or};
-ghost use Rattle.shelf.specs.Words.{at};
+ghost use Rattle.std.specs.Prelude.{◌≡◌, ◌*◌, ◌≤◌, slice_index};
 ghost use Rattle.granules.specs.Paths.{records_beneath};
 ghost use Rattle.granules.specs.Trees.{table};
 ghost use Rattle.operations.specs.Actions.{rounded};
@@ -12,8 +10,9 @@ use granules::Tree;
 use shelf::Shelf;
 
 // The word at a place.
+#[tactic(auto, using(crate::proofs::Places::word_at))]
 fn word<S: Shelf>(shelf: &S, place: usize) -> u32
-    ensures value { result ≡ unwrap_or (at (S.Shelf.words shelf.now) place) 0 }
+    ensures value { result ≡ slice_index (S.Shelf.words shelf.now) place }
 {
     shelf.get(place).unwrap_or(0)
 }
@@ -23,14 +22,9 @@ fn total<S: Shelf>(tree: &Tree, shelf: &S, granule: usize) -> u64
     ensures value { result ≡ sum (table tree.now) (S.Shelf.words shelf.now) granule }
     ensures bound { result ≤ 256 * 4294967295 }
 {
-    let (first, end) = tree.span(granule);
-    let mut sum = 0;
-    for r in first..end {
-        if tree.is_record_beneath(granule, r) {
-            sum += u64::from(word(shelf, r));
-        }
-    }
-    sum
+    tree.records(granule)
+        .map(|r| u64::from(word(shelf, r)))
+        .sum()
 }
 
 // What a read answers: the sum of the words of the records beneath a granule, and how many records there are.
@@ -61,12 +55,9 @@ fn change<S: Shelf>(tree: &Tree, shelf: &mut S, operation: Operation)
     ensures after { S.Shelf.words shelf.new ≡ after (table tree.now) operation (S.Shelf.words shelf.old) }
 {
     let granule = operation.granule as usize;
-    let (first, end) = tree.span(granule);
-    for r in first..end {
-        if tree.is_record_beneath(granule, r) {
-            let new = operation.action.changed(word(shelf, r));
-            let _ = shelf.put(r, new);
-        }
+    for r in tree.records(granule) {
+        let new = operation.action.changed(word(shelf, r));
+        let _ = shelf.put(r, new);
     }
 }
 
