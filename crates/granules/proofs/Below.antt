@@ -31,9 +31,6 @@ some_from (suc n) f k h e =
 pub some_more : (i : ℕ) (f : ℕ → Bool) → some_below (i + 1) f ≡ (some_below i f || f i)
 some_more i f = rw add-one
 
-pub sum_more : (i : ℕ) (f : ℕ → Bool) (figure : ℕ → ℕ) → sum_below (i + 1) f figure ≡ sum_below i f figure + cond (f i) (figure i) 0
-sum_more i f figure = rw add-one
-
 pub never : (b : Bool) → (b ≡ true → ⊥) → b ≡ false
 never true h = absurd (h refl)
 never false h = refl
@@ -45,26 +42,6 @@ sum_none (suc n) f figure h =
     let rest = sum_none n f figure (λ k l. h k (omega arith)) in
     let last = cond-false (f n) (figure n) 0 (never (f n) (h n (omega arith))) in
     omega arith
-
--- nor does it count how far one looks past the last at which it passes
-sum_past : (m n : ℕ) (f : ℕ → Bool) (figure : ℕ → ℕ) → m ≤ n → ((k : ℕ) → f k ≡ true → k < m) → sum_below n f figure ≡ sum_below m f figure
-sum_past m zero f figure h p = let e : m ≡ 0 = omega arith in ap (λ (x : ℕ). sum_below x f figure) (sym e)
-sum_past m (suc n) f figure h p =
-    elim (cases_eq m (suc n)) [
-      | inl e ↦ ap (λ (x : ℕ). sum_below x f figure) (sym e)
-      | inr e ↦
-          let rest = sum_past m n f figure (omega arith) p in
-          let last = cond-false (f n) (figure n) 0 (never (f n) (λ t. omega (arith, p n t))) in
-          omega arith
-    ]
-
-pub sum_same :
-    (m n : ℕ) (f : ℕ → Bool) (figure : ℕ → ℕ) → ((k : ℕ) → f k ≡ true → (k < m) × (k < n)) → sum_below m f figure ≡ sum_below n f figure
-sum_same m n f figure p =
-    elim (cases_lt m n) [
-      | inl l ↦ sym (sum_past m n f figure (omega arith) (λ k t. (p k t).0))
-      | inr l ↦ sum_past n m f figure l (λ k t. (p k t).1)
-    ]
 
 -- one of which the test passes is counted
 pub sum_has : (n : ℕ) (f : ℕ → Bool) (figure : ℕ → ℕ) (k : ℕ) → k < n → f k ≡ true → figure k ≤ sum_below n f figure

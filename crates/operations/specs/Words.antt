@@ -1,5 +1,5 @@
 -- What an operation answers and what it leaves, over the list of all words of the shelf.
-use Rattle.std.specs.Prelude.{ℕ, suc, cond, List, [], ◌∷◌, ◌++◌, length, slice_index, codes, decimal}
+use Rattle.std.specs.Prelude.{ℕ, suc, ◌*◌, cond, List, [], ◌∷◌, ◌++◌, length, slice_index, codes, decimal}
 use Rattle.granules.specs.Below.{sum_below}
 use Rattle.granules.specs.Paths.{record_beneath, records_beneath}
 use Rattle.operations.specs.declared.operation.Action.{Action}
@@ -12,6 +12,10 @@ use Rattle.operations.specs.Actions.{changed, rounded}
 -- The sum of the words of the records beneath a granule. The word of record r lies at place r.
 abbrev pub sum : List ℕ → List ℕ → ℕ → ℕ
 sum parents words g = sum_below (length parents) (record_beneath parents g) (λ r. slice_index words r)
+
+-- No sum of words is larger: there are at most 256, of 32 bits each.
+abbrev pub largest_sum : ℕ
+largest_sum = 256 * 4294967295
 
 -- What an action answers, where it meets records with this sum, so many of them.
 abbrev pub told : Action → ℕ → ℕ → Outcome

@@ -1,9 +1,9 @@
 // One operation carried out over a shelf. A place that the shelf does not have reads as 0 and takes no word.
-ghost use Rattle.std.specs.Prelude.{◌≡◌, ◌*◌, ◌≤◌, slice_index};
+ghost use Rattle.std.specs.Prelude.{◌≡◌, ◌≤◌, slice_index};
 ghost use Rattle.granules.specs.Paths.{records_beneath};
 ghost use Rattle.granules.specs.Trees.{table};
 ghost use Rattle.operations.specs.Actions.{rounded};
-ghost use Rattle.operations.specs.Words.{sum, answer, after};
+ghost use Rattle.operations.specs.Words.{sum, largest_sum, answer, after};
 
 use crate::operation::{Action, Operation, Outcome};
 use granules::Tree;
@@ -20,7 +20,7 @@ fn word<S: Shelf>(shelf: &S, place: usize) -> u32
 // The sum of the words of the records beneath a granule.
 fn total<S: Shelf>(tree: &Tree, shelf: &S, granule: usize) -> u64
     ensures value { result ≡ sum (table tree.now) (S.Shelf.words shelf.now) granule }
-    ensures bound { result ≤ 256 * 4294967295 }
+    ensures bound { result ≤ largest_sum }
 {
     tree.records(granule)
         .map(|r| u64::from(word(shelf, r)))
@@ -31,7 +31,7 @@ fn total<S: Shelf>(tree: &Tree, shelf: &S, granule: usize) -> u64
 pub fn figures<S: Shelf>(tree: &Tree, shelf: &S, granule: usize) -> (u64, u32)
     ensures sum { result.0 ≡ sum (table tree.now) (S.Shelf.words shelf.now) granule }
     ensures count { result.1 ≡ records_beneath (table tree.now) granule }
-    ensures bound { result.0 ≤ 256 * 4294967295 }
+    ensures bound { result.0 ≤ largest_sum }
 {
     (
         total(tree, shelf, granule),
@@ -41,7 +41,7 @@ pub fn figures<S: Shelf>(tree: &Tree, shelf: &S, granule: usize) -> (u64, u32)
 
 // A sum over a count, to the nearest whole number, halves up; over no records it is 0.
 fn mean(sum: u64, count: u32) -> u64
-    requires { sum ≤ 256 * 4294967295 }
+    requires { sum ≤ largest_sum }
     ensures value { result ≡ rounded sum count }
 {
     if count == 0 {
