@@ -5,6 +5,8 @@ use Rattle.std.proofs.lemmas.Bool.{cases_lt, cases_Bool, cond-true, cond-false, 
 use Rattle.shelf.specs.Words.{at}
 use Rattle.granules.specs.Below.{sum_below}
 use Rattle.granules.specs.Paths.{record_beneath}
+use Rattle.operations.specs.declared.operation.Action.{Action}
+use Rattle.operations.specs.declared.operation.Action.TheVariants.{Read, Mean}
 use Rattle.operations.specs.declared.operation.Operation.{Operation}
 use Rattle.operations.specs.Actions.{changed}
 use Rattle.operations.specs.Words.{sum, largest_sum, each_from, left_at, after}
@@ -58,10 +60,16 @@ pub left_new : (ps : List ℕ) (o : Operation) (k w : ℕ) → record_beneath ps
 left_new ps o k w e = cond-true (record_beneath ps o.granule k) (changed o.action w) w e
 
 -- an action that leaves each word leaves the shelf
-pub after_still : (ps : List ℕ) (o : Operation) (ws : List ℕ) → ((w : ℕ) → changed o.action w ≡ w) → after ps o ws ≡ ws
+after_still : (ps : List ℕ) (o : Operation) (ws : List ℕ) → ((w : ℕ) → changed o.action w ≡ w) → after ps o ws ≡ ws
 unfolding after
 after_still ps o ws h =
     each_still 0 (left_at ps o) ws
     (λ k w.
     elim (cases_Bool (record_beneath ps o.granule k))
     [ inl t ↦ left_new ps o k w t ∙ h w | inr t ↦ left_still ps o k w t ])
+
+pub after_read : (ps : List ℕ) (o : Operation) (ws : List ℕ) → o.action ≡ Read → after ps o ws ≡ ws
+after_read ps o ws e = after_still ps o ws (λ w. ap (λ (a : Action). changed a w) e)
+
+pub after_mean : (ps : List ℕ) (o : Operation) (ws : List ℕ) → o.action ≡ Mean → after ps o ws ≡ ws
+after_mean ps o ws e = after_still ps o ws (λ w. ap (λ (a : Action). changed a w) e)

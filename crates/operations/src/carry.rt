@@ -62,6 +62,7 @@ fn change<S: Shelf>(tree: &Tree, shelf: &mut S, operation: Operation)
 }
 
 // Carries an operation out and answers it. Beneath a granule that the tree does not have there is no record.
+#[tactic(auto, using(crate::proofs::Places::after_read, crate::proofs::Places::after_mean))]
 pub fn carry_out<S: Shelf>(tree: &Tree, shelf: &mut S, operation: Operation) -> Outcome
     ensures value { result ≡ answer (table tree.now) operation (S.Shelf.words shelf.old) }
     ensures after { S.Shelf.words shelf.new ≡ after (table tree.now) operation (S.Shelf.words shelf.old) }

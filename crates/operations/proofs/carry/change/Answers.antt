@@ -1,21 +1,10 @@
-use Rattle.std.proofs.Common.{List, ℕ, get_or, set, sym, ap, ◌∙◌}
+use Rattle.std.proofs.Common.{sym, ap, ◌∙◌}
 use Rattle.std.proofs.lemmas.List.{map-id}
-use Rattle.std.proofs.lemmas.List.Sums.{fold_push}
 use Rattle.std.proofs.lemmas.Iterator.Consumers.{YieldsList-at, YieldsList-from_first, YieldsList-end}
 use Rattle.granules.specs.Paths.{records}
 use Rattle.granules.specs.Trees.{table, ahead}
-use Rattle.operations.specs.Actions.{changed}
-use Rattle.operations.proofs.Sweeps.{write, rewritten, rewritten_all}
+use Rattle.operations.proofs.Sweeps.{rewritten, rewritten_all}
 use Rattle.operations.proofs.carry.change.Goals as goal
-
-pub loop-r-preserved : goal.loop-r-preserved
-loop-r-preserved g c =
-    let o = c.args.operation in
-    let r = c.in-Some.r in
-    c.put.ensures.after
-    ∙ ap (set (g.S.Shelf.words c.loop-r.shelf) r) (c.changed-new.ensures.value ∙ ap (changed o.action) c.word.ensures.value)
-    ∙ ap (λ (ws : List ℕ). write o ws r) c.loop-r.invariant
-    ∙ sym (fold_push (write o) (g.S.Shelf.words c.args.shelf.now) c.loop-r.yielded r)
 
 pub returns : goal.returns
 returns g c =
