@@ -1,6 +1,6 @@
 -- What tests, counts and sums over the numbers below n say at one of them.
 use Rattle.std.proofs.Common.{◌≡◌, ℕ, zero, suc, ◌+◌, ◌<◌, ◌≤◌, Bool, true, false, cond, ◌||◌, sym, refl, ap, subst, inl, inr, add-one, arith}
-use Rattle.std.proofs.lemmas.Bool.{cases_eq, and_parts, and_from, and_left, and_right, or_cases, or_left, or_right, both_ways, cond-false, cond-true, cases_lt, cases_Bool}
+use Rattle.std.proofs.lemmas.Bool.{cases_eq, and_parts, or_cases, or_left, or_right, both_ways, cond-false, cond-true, cases_Bool}
 use Rattle.granules.specs.Below.{each_below, some_below, sum_below, count_below}
 
 pub each_at : (n : ℕ) (f : ℕ → Bool) → each_below n f ≡ true → (k : ℕ) → k < n → f k ≡ true

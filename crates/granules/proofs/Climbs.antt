@@ -1,10 +1,9 @@
 -- Paths in a rooted table: one granule at a time, and what lies beneath what.
-use Rattle.std.proofs.Common.{◌≡◌, ℕ, zero, suc, ◌+◌, ◌<◌, ◌≤◌, Bool, true, false, not, ◌&&◌, ◌||◌, eqb, ltb, leb, List, [], ◌∷◌, ◌++◌, length, Some, None, sym, refl, ap, ◌∙◌, subst, inl, inr, arith}
+use Rattle.std.proofs.Common.{◌≡◌, ℕ, zero, suc, ◌+◌, ◌<◌, ◌≤◌, Bool, true, false, not, ◌&&◌, ◌||◌, eqb, ltb, leb, List, [], ◌∷◌, ◌++◌, length, sym, refl, ap, ◌∙◌, subst, inl, inr, arith}
 use Rattle.std.proofs.lemmas.List.{length_push, get_or_past}
-use Rattle.std.proofs.lemmas.Bool.{cases_eq, cases_lt, cases_Bool, and_parts, and_from, or_cases, or_left, or_right, both_ways, ne_eqb, eq-eqb, and_left, le-ltb, eqb-true, ltb-true, leb-true, lt-ltb, not-true, not_from_false}
+use Rattle.std.proofs.lemmas.Bool.{cases_lt, cases_Bool, and_parts, and_from, or_cases, or_left, or_right, both_ways, ne_eqb, eq-eqb, and_left, le-ltb, eqb-true, ltb-true, leb-true, lt-ltb, not-true, not_from_false}
 use Rattle.granules.specs.Paths.{parent, path, path_by, among, beneath, has_child, is_record, record_beneath, records_beneath}
 use Rattle.granules.specs.Tables.{rooted, right_for, shallow}
-use Rattle.granules.specs.Trees.{span}
 use Rattle.granules.proofs.Below.{each_at, some_at, some_from, sum_has}
 
 -- A climb falls: each parent is smaller, beyond the table too.
@@ -69,13 +68,25 @@ climb ps f P root step g = go (suc g) g (omega arith)
 pub path_more : (ps : List ℕ) → Falls ps → (g : ℕ) → 0 < g → length (path ps g) ≡ length (path ps (parent ps g)) + 1
 path_more ps f g h = ap length (path_step ps f g h) ∙ length_push (path ps (parent ps g)) g
 
-pub path_long : (ps : List ℕ) → Falls ps → (g : ℕ) → length (path ps g) ≤ g + 1
-path_long ps f =
+-- how deep the granules of a rooted table lie
+pub rooted_falls : (ps : List ℕ) (g : ℕ) → rooted ps ≡ true → 0 < g → parent ps g < g
+rooted_falls ps g t h = falls ps t g h
+
+pub depth_root : (ps : List ℕ) (g : ℕ) → g ≡ 0 → length (path ps g) ≡ 1
+depth_root ps g e = ap (λ (x : ℕ). length (path ps x)) e ∙ ap length (path_root ps)
+
+pub depth_more : (ps : List ℕ) (g : ℕ) → rooted ps ≡ true → 0 < g → length (path ps g) ≡ length (path ps (parent ps g)) + 1
+depth_more ps g t h = path_more ps (falls ps t) g h
+
+pub depth_long : (ps : List ℕ) (g : ℕ) → rooted ps ≡ true → length (path ps g) ≤ g + 1
+depth_long ps g t =
+    let f = falls ps t in
     climb ps f (λ g. length (path ps g) ≤ g + 1) (rw path_root (omega arith))
     (λ g h ih.
     let l = f g h in
     let e = path_more ps f g h in
     omega arith)
+    g
 
 -- in a shallow table a path that goes on has room for one more
 pub path_room : (ps : List ℕ) → Falls ps → shallow ps ≡ true → (g : ℕ) → 0 < g → length (path ps (parent ps g)) < 8

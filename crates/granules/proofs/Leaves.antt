@@ -1,8 +1,8 @@
 -- The flags of granules that are nobody's parent, marked off one child after the other.
-use Rattle.std.proofs.Common.{◌≡◌, ℕ, zero, suc, ◌+◌, ◌<◌, ◌≤◌, Bool, true, false, not, ◌&&◌, ◌||◌, eqb, ltb, List, [], ◌∷◌, length, get_or, map, drop, replicate, set, sym, refl, ap, ◌∙◌, subst, inl, inr, add-one, arith}
+use Rattle.std.proofs.Common.{◌≡◌, ℕ, zero, suc, ◌+◌, ◌<◌, Bool, true, false, not, ◌&&◌, ◌||◌, eqb, ltb, List, [], ◌∷◌, length, get_or, map, drop, replicate, set, sym, refl, ap, ◌∙◌, inl, inr, add-one, arith}
 use Rattle.granules.specs.declared.tree.Node.{Node}
 use Rattle.std.proofs.lemmas.List.{get_or_default, get_or-set_same, get_or-set_other}
-use Rattle.std.proofs.lemmas.Bool.{cases_eq, and_from, and_left, and_right, or_right, ne_eqb, eq-eqb, lt-ltb, le-ltb}
+use Rattle.std.proofs.lemmas.Bool.{cases_eq, and_from, and_right, or_right, ne_eqb, eq-eqb, lt-ltb}
 use Rattle.granules.specs.Below.{some_below}
 use Rattle.granules.specs.Paths.{parent, has_child, is_record}
 use Rattle.granules.proofs.Below.{some_more}

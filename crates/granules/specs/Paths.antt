@@ -1,6 +1,6 @@
 -- The tree of granules, by its parents table: a list whose entry g is the parent of granule g.
 -- Granule 0, the database, is the root, and its own parent. Every other parent has a smaller number than its child.
-use Rattle.std.specs.Prelude.{ℕ, zero, suc, Bool, true, false, not, ◌&&◌, ◌||◌, List, [], ◌∷◌, ◌++◌, length, ◌==◌, nat_lt, slice_index}
+use Rattle.std.specs.Prelude.{ℕ, zero, suc, Bool, false, not, ◌&&◌, ◌||◌, List, [], ◌∷◌, ◌++◌, length, ◌==◌, nat_lt, slice_index}
 use Rattle.std.specs.List.{filter, range_with_len}
 use Rattle.granules.specs.Below.{some_below, count_below}
 

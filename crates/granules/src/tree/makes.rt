@@ -28,6 +28,7 @@ fn is_rooted(parents: &[u32]) -> bool
 }
 
 // How many granules the path of one has.
+#[tactic(auto, using(crate::proofs::Climbs::rooted_falls, crate::proofs::Climbs::depth_root, crate::proofs::Climbs::depth_more, crate::proofs::Climbs::depth_long))]
 fn depth(parents: &[u32], granule: usize) -> usize
     requires rooted { rooted parents.now ≡ true }
     requires within { granule < length parents.now }

@@ -1,11 +1,10 @@
-use Rattle.std.proofs.Common.{◌≡◌, ◌+◌, ℕ, Bool, true, false, List, [], ◌∷◌, ◌++◌, length, get_or, map, set, take, sym, refl, ap, ◌∙◌, subst, arith, rules}
+use Rattle.std.proofs.Common.{◌+◌, ℕ, Bool, true, false, List, [], ◌∷◌, ◌++◌, length, get_or, map, set, take, sym, refl, ap, ◌∙◌, subst, arith}
 use Rattle.std.proofs.lemmas.List.{length-set, length-map, length_push, map-set, take_more, take_more_set}
 use Rattle.std.proofs.lemmas.Iterator.{YieldsList-from_slice}
 use Rattle.std.proofs.lemmas.Iterator.Adapters.{YieldsList-from_skip}
-use Rattle.std.proofs.lemmas.Iterator.Consumers.{YieldsList-at, YieldsList-turn, YieldsList-end}
+use Rattle.std.proofs.lemmas.Iterator.Consumers.{YieldsList-at, YieldsList-turn}
 use Rattle.std.proofs.Math.Seq.{map-set_same}
 use Rattle.granules.specs.declared.tree.Node.{Node}
-use Rattle.granules.specs.Paths.{parent}
 use Rattle.granules.proofs.Climbs.{parent_small}
 use Rattle.granules.proofs.Leaves.{Marked, marked_more, all_left, nth_child}
 use Rattle.granules.proofs.tree.makes.kept.Goals as goal

@@ -1,4 +1,4 @@
-use Rattle.std.proofs.Common.{◌≡◌, rules, tests, arith}
+use Rattle.std.proofs.Common.{rules, tests, arith}
 use Rattle.granules.specs.Paths.{record_beneath}
 use Rattle.granules.specs.Trees.{table}
 use Rattle.granules.proofs.Sought.{found}
