@@ -88,6 +88,8 @@ depth_long ps g t =
     omega arith)
     g
 
+pub ruleset depths = (rooted_falls, depth_root, depth_more, depth_long)
+
 -- in a shallow table a path that goes on has room for one more
 pub path_room : (ps : List ℕ) → Falls ps → shallow ps ≡ true → (g : ℕ) → 0 < g → length (path ps (parent ps g)) < 8
 path_room ps f t g h =

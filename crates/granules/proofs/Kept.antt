@@ -52,3 +52,9 @@ beneath_record t g k e b = let s = record_span (table t) (tree_falls t) g e k b 
 
 pub beneath_other : (t : Tree) (g k : ℕ) → record_beneath (table t) g k ≡ true → (g ≤ k) × (k < t.granules)
 beneath_other t g k b = let s = other_span (table t) (tree_falls t) g k b in (s.0, omega (arith, s.1, size t))
+
+pub ruleset climbs = (parent_falls, climb_found, climb_ends, climb_on)
+
+pub ruleset paths = (parent_falls, path_ends, path_on, path_fits)
+
+pub ruleset spans = (size, record_inside, beneath_record, beneath_other)

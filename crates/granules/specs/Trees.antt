@@ -1,14 +1,15 @@
 -- What a `Tree`, a `Path` and the `Records` beneath a granule keep.
-use Rattle.std.specs.Prelude.{ℕ, ◌+◌, ◌-◌, true, false, List, length, take, map}
+use Rattle.std.specs.Prelude.{ℕ, ◌+◌, ◌-◌, true, false, List, length, take}
 use Rattle.std.specs.List.{filter, range_with_len}
 use Rattle.granules.specs.declared.path.Path.{Path}
 use Rattle.granules.specs.declared.tree.Tree.{Tree}
 use Rattle.granules.specs.declared.tree.records.Records.{Records}
+use Rattle.granules.specs.Nodes.{first_parents}
 use Rattle.granules.specs.Paths.{is_record, record_beneath}
 
 -- the parents table of a tree
 abbrev pub table : Tree → List ℕ
-table t = take t.granules (map (λ n. n.parent) t.nodes)
+table t = first_parents t.granules t.nodes
 
 -- the granules of a path, from the root down
 abbrev pub steps : Path → List ℕ

@@ -1,5 +1,6 @@
 // A parents table that has passed the check.
-ghost use Rattle.std.specs.Prelude.{◌≡◌, ℕ, ◌<◌, ◌≤◌, true, false, length, take, map, slice_index_or};
+ghost use Rattle.std.specs.Prelude.{◌≡◌, ℕ, ◌<◌, ◌≤◌, true, false, length, map, slice_index_or};
+ghost use Rattle.granules.specs.Nodes.{first_parents};
 ghost use Rattle.granules.specs.Paths.{is_record};
 ghost use Rattle.granules.specs.Tables.{rooted, shallow};
 
@@ -23,7 +24,7 @@ pub struct Tree {
     ghost some: { 0 < granules },
     ghost few: { granules ≤ 256 },
     ghost full: { length nodes ≡ 256 },
-    ghost rooted: { rooted (take granules (map (λ n. n.parent) nodes)) ≡ true },
-    ghost shallow: { shallow (take granules (map (λ n. n.parent) nodes)) ≡ true },
-    ghost leaves: { (g : ℕ) → g < granules → slice_index_or (map (λ n. n.leaf) nodes) g false ≡ is_record (take granules (map (λ n. n.parent) nodes)) g },
+    ghost rooted: { rooted (first_parents granules nodes) ≡ true },
+    ghost shallow: { shallow (first_parents granules nodes) ≡ true },
+    ghost leaves: { (g : ℕ) → g < granules → slice_index_or (map (λ n. n.leaf) nodes) g false ≡ is_record (first_parents granules nodes) g },
 }

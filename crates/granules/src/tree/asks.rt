@@ -43,7 +43,7 @@ impl Tree {
     }
 
     // Whether a granule lies beneath another.
-    #[tactic(auto, using(crate::proofs::Kept::parent_falls, crate::proofs::Kept::climb_found, crate::proofs::Kept::climb_ends, crate::proofs::Kept::climb_on))]
+    #[tactic(auto, using(crate::proofs::Kept::climbs))]
     pub fn is_beneath(&self, above: usize, granule: usize) -> bool
         ensures value { result ≡ beneath (table self.now) above granule }
     {
@@ -51,7 +51,7 @@ impl Tree {
     }
 
     // The granules from the root down to one; for a number beyond 255, which is no granule's, the root alone.
-    #[tactic(auto, using(crate::proofs::Kept::parent_falls, crate::proofs::Kept::path_ends, crate::proofs::Kept::path_on, crate::proofs::Kept::path_fits))]
+    #[tactic(auto, using(crate::proofs::Kept::paths))]
     pub fn path(&self, granule: usize) -> Path
         ensures value { steps result ≡ (if nat_lt granule 256 then path (table self.now) granule else 0 ∷ []) }
     {
@@ -62,7 +62,7 @@ impl Tree {
     }
 
     // Where records beneath a granule can lie: from the first number up to the second, which is not among them.
-    #[tactic(auto, using(crate::proofs::Kept::size, crate::proofs::Kept::record_inside, crate::proofs::Kept::beneath_record, crate::proofs::Kept::beneath_other))]
+    #[tactic(auto, using(crate::proofs::Kept::spans))]
     pub fn span(&self, granule: usize) -> (usize, usize)
         ensures value { result ≡ span (table self.now) granule }
         ensures all { (k : ℕ) → record_beneath (table self.now) granule k ≡ true → (result.0 ≤ k) × (k < result.1) }

@@ -1,7 +1,8 @@
 // The check of a parents table.
-ghost use Rattle.std.specs.Prelude.{◌≡◌, ℕ, ◌+◌, ◌<◌, ◌≤◌, true, false, not, ◌&&◌, length, map, take, IfOk, ◌==◌, nat_lt, slice_index_or};
+ghost use Rattle.std.specs.Prelude.{◌≡◌, ℕ, ◌+◌, ◌<◌, ◌≤◌, true, false, not, ◌&&◌, length, map, IfOk, ◌==◌, nat_lt, slice_index_or};
 ghost use Rattle.std.specs.Result.{result_err};
 ghost use Rattle.granules.specs.Below.{some_below};
+ghost use Rattle.granules.specs.Nodes.{first_parents};
 ghost use Rattle.granules.specs.Paths.{parent, path};
 ghost use Rattle.granules.specs.Tables.{fault, rooted, right_for, shallow};
 ghost use Rattle.granules.specs.Trees.{table};
@@ -28,7 +29,7 @@ fn is_rooted(parents: &[u32]) -> bool
 }
 
 // How many granules the path of one has.
-#[tactic(auto, using(crate::proofs::Climbs::rooted_falls, crate::proofs::Climbs::depth_root, crate::proofs::Climbs::depth_more, crate::proofs::Climbs::depth_long))]
+#[tactic(auto, using(crate::proofs::Climbs::depths))]
 fn depth(parents: &[u32], granule: usize) -> usize
     requires rooted { rooted parents.now ≡ true }
     requires within { granule < length parents.now }
@@ -53,7 +54,7 @@ fn is_shallow(parents: &[u32]) -> bool
 fn kept(parents: &[u32]) -> [Node; 256]
     requires rooted { rooted parents.now ≡ true }
     requires few { length parents.now ≤ 256 }
-    ensures parents { take (length parents.now) (map (λ n. n.parent) result) ≡ parents.now }
+    ensures parents { first_parents (length parents.now) result ≡ parents.now }
     ensures leaves { (g : ℕ) → g < 256 → slice_index_or (map (λ n. n.leaf) result) g false ≡ not (some_below (length parents.now) (λ h. nat_lt 0 h && parent parents.now h == g)) }
     ensures len { length result ≡ 256 }
 {
