@@ -20,3 +20,5 @@ halves_up = (refl, refl)
 pub eight_deep : EightDeep
 unfolding path
 eight_deep = (refl, refl, refl)
+
+pub ruleset edges = (one_granule, wraps, halves_up, eight_deep)

@@ -2,6 +2,7 @@
 ghost use Rattle.operations.specs.Edges.{OneGranule, Wraps, HalvesUp, EightDeep};
 
 // Always true: the promise is in the clauses.
+#[tactic(auto, using(crate::proofs::Edges::edges))]
 pub fn edge_facts() -> bool
     ensures one { OneGranule }
     ensures wraps { Wraps }
