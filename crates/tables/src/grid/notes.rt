@@ -29,13 +29,11 @@ impl Grid<Note> {
             return;
         }
         let granule = operation.granule as usize;
-        let (first, end) = tree.span(granule);
-        for place in first..end {
-            if tree.is_record_beneath(granule, place) {
-                let word = shelf.get(place).unwrap_or(0);
-                let note = self.get(seat, place as u8).noted(operation.action, word);
-                self.put(seat, place as u8, note);
-            }
+        for record in tree.records(granule) {
+            let word = shelf.get(record).unwrap_or(0);
+            let place = record as u8;
+            let note = self.get(seat, place).noted(operation.action, word);
+            self.put(seat, place, note);
         }
     }
 }

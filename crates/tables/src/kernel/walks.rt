@@ -93,8 +93,8 @@ impl<M: ModeSystem, S: Shelf> Core<M, S> {
         ensures walk { walk_on M.ModeSystem.meaning walker (steps path.now) (model S.Shelf.words self.old) ≡ record { left = model S.Shelf.words self.new; complete = result } }
         ensures numbers { (numbers_of self.new.seats) ≡ (numbers_of self.old.seats) }
     {
-        for place in 0..path.len() {
-            match self.step(walker, path.at(place) as u8) {
+        for granule in path.as_slice() {
+            match self.step(walker, *granule) {
                 Step::Covered => return true,
                 Step::Stopped => return false,
                 Step::On => {}
