@@ -90,7 +90,7 @@ module _ (s : System) (law : Lawful s) {M S : Type 0} (words : S → List ℕ) (
       )
 
   next_seated : (n : ℕ) → (next_above n (numbers_of c.seats) ≡ 0 → ⊥) → among (next_above n (numbers_of c.seats)) (numbers_of c.seats) ≡ true
-  next_seated n d = elim ((next_nearest n (numbers_of c.seats)).found d) [ inl z ↦ absurd (d z) | inr e ↦ e ]
+  next_seated n d = (next_nearest n (numbers_of c.seats)).found d
 
   pub begin : Reached c (next_above a (numbers_of c.seats))
   begin =

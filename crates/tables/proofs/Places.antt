@@ -1,9 +1,11 @@
 -- The first place of a number in a list, and lists whose numbers are apart and given.
-use Rattle.std.proofs.Common.{◌≡◌, ℕ, zero, suc, ◌<◌, ◌≤◌, true, false, not, ◌&&◌, ◌||◌, eqb, ltb, leb, ◌⊎◌, List, [], ◌∷◌, length, get_or, set, fold, sym, refl, ap, ◌∙◌, subst, inl, inr, arith}
+use Rattle.std.proofs.Common.{◌≡◌, ℕ, zero, suc, ◌<◌, ◌≤◌, true, false, not, ◌&&◌, ◌||◌, eqb, ltb, leb, ◌⊎◌, List, [], ◌∷◌, length, get_or, set, fold, min, Some, unwrap_or, sym, refl, ap, ◌∙◌, subst, inl, inr, arith}
 use Rattle.std.proofs.lemmas.List.{get_or_past}
+use Rattle.std.proofs.lemmas.Option.{cond_some, none-some}
 use Rattle.std.proofs.lemmas.Bool.{cases_eq, cases_lt, and_parts, and_left, and_right, cond-true, cond-false, lt-ltb, le-ltb, and_from, or_cases, or_left, or_right, or_parts, or_from, both_ways, not-true, not_from_false, eq-eqb, ne_eqb, eqb-true, le-leb, leb-true}
 use Rattle.granules.specs.Paths.{among}
-use Rattle.tables.specs.Seats.{place, distinct, all_given, nearer, next_above}
+use Rattle.std.specs.List.{filter, reduce}
+use Rattle.tables.specs.Seats.{place, distinct, all_given, next_above}
 
 pub place_here : (x : ℕ) (xs : List ℕ) (k : ℕ) → x ≡ k → place (x ∷ xs) k ≡ 0
 place_here x xs k e = let t = eq-eqb x k e in rw (t, place)
@@ -117,107 +119,107 @@ distinct_free (x ∷ xs) (suc i) e =
     ])
     (distinct_free xs i p.1)
 
--- the better of two is one of them, is above n if it is any, and is not above the other
-nearer_new : (n b x : ℕ) → n < x → (b ≡ 0) ⊎ (x < b) → nearer n b x ≡ x
-nearer_new n b x l h =
-    cond-true (ltb n x && (eqb b 0 || ltb x b)) x b
-    (and_from (ltb n x) (eqb b 0 || ltb x b) (lt-ltb n x l)
-    (elim h [ inl z ↦ or_left (eqb b 0) (ltb x b) (eq-eqb b 0 z) | inr m ↦ or_right (eqb b 0) (ltb x b) (lt-ltb x b m) ]))
-
-nearer_old : (n b x : ℕ) → (n < x → (b ≡ 0 → ⊥) × (b ≤ x)) → nearer n b x ≡ b
-nearer_old n b x h =
-    cond-false (ltb n x && (eqb b 0 || ltb x b)) x b
-    (elim (cases_lt n x) [
-      | inl l ↦
-          and_right (ltb n x) (eqb b 0 || ltb x b)
-          (or_from (eqb b 0) (ltb x b) (ne_eqb b 0 (h l).0) (le-ltb x b (h l).1))
-      | inr l ↦ and_left (ltb n x) (eqb b 0 || ltb x b) (le-ltb n x l)
-    ])
-
--- What a search for the next number finds, that began with b: it is above n; it is at most b and any number above n that it
--- met; and it is one of these.
-pub record Nearest (n b : ℕ) (xs : List ℕ) (r : ℕ) : Type 0 where
+-- What a search for the next number finds, where it finds any: it is above n, no number above n that it met is smaller, and it
+-- is one of these.
+pub record Nearest (n : ℕ) (xs : List ℕ) (r : ℕ) : Type 0 where
   pub above : (r ≡ 0 → ⊥) → n < r
-  pub not_past : (b ≡ 0 → ⊥) → (r ≡ 0 → ⊥) × (r ≤ b)
   pub least : (x : ℕ) → among x xs ≡ true → n < x → (r ≡ 0 → ⊥) × (r ≤ x)
-  pub found : (r ≡ 0 → ⊥) → (r ≡ b) ⊎ (among r xs ≡ true)
+  pub found : (r ≡ 0 → ⊥) → among r xs ≡ true
 
-nearest : (n : ℕ) (xs : List ℕ) (b : ℕ) → ((b ≡ 0 → ⊥) → n < b) → Nearest n b xs (fold (nearer n) b xs)
-nearest n [] b h =
-    record {
-      above = h;
-      not_past = λ z. (z, omega arith);
-      least = λ x e. absurd (both_ways false refl e);
-      found = λ z. inl refl;
-    }
-nearest n (x ∷ xs) b h =
-    let rest : (c : ℕ) → ((c ≡ 0 → ⊥) → n < c) → Nearest n c xs (fold (nearer n) c xs) = λ c g. nearest n xs c g in
+-- The same, where a number was had before.
+record Better (n b : ℕ) (xs : List ℕ) (r : ℕ) : Type 0 where
+  above : n < r
+  below : r ≤ b
+  least : (x : ℕ) → among x xs ≡ true → n < x → r ≤ x
+  found : (r ≡ b) ⊎ (among r xs ≡ true)
+
+better : (n b : ℕ) (xs : List ℕ) → n < b → Better n b xs (fold min b (filter (ltb n) xs))
+better n b [] l = record { above = l; below = omega arith; least = λ x e. absurd (both_ways false refl e); found = inl refl }
+better n b (x ∷ xs) l =
     elim (cases_lt n x) [
-      | inl l ↦
-          elim (cases_eq b 0) [
-            | inl z ↦ taken rest l (inl z) (λ d. absurd (d z))
-            | inr z ↦
-                elim (cases_lt x b) [
-                  | inl m ↦ taken rest l (inr m) (λ d. omega arith)
-                  | inr m ↦ left rest (λ _. (z, m))
-                ]
-          ]
-      | inr l ↦ left rest (λ k. absurd (omega arith))
+      | inl m ↦
+          let h = better n (min b x) xs (omega arith) in
+          let r = fold min (min b x) (filter (ltb n) xs) in
+          let is : fold min b (filter (ltb n) (x ∷ xs)) ≡ r = ap (fold min b) (cond-true (ltb n x) (x ∷ filter (ltb n) xs) (filter (ltb n) xs) (lt-ltb n x m)) in
+          subst (Better n b (x ∷ xs)) (sym is)
+          (record {
+            above = h.above;
+            below = omega (arith, h.below);
+            least = λ y e k.
+                elim (or_cases (eqb y x) (among y xs) e) [ inl z ↦ omega (arith, h.below, eqb-true y x z) | inr z ↦ h.least y z k ];
+            found =
+                elim h.found [
+                  | inr e ↦ inr (or_right (eqb r x) (among r xs) e)
+                  | inl e ↦
+                      elim (cases_lt b x) [
+                        | inl k ↦ inl (omega (arith, e, k))
+                        | inr k ↦ inr (or_left (eqb r x) (among r xs) (eq-eqb r x (omega (arith, e, k))))
+                      ]
+                ];
+          })
+      | inr m ↦
+          let h = better n b xs l in
+          let r = fold min b (filter (ltb n) xs) in
+          let is : fold min b (filter (ltb n) (x ∷ xs)) ≡ r = ap (fold min b) (cond-false (ltb n x) (x ∷ filter (ltb n) xs) (filter (ltb n) xs) (le-ltb n x m)) in
+          subst (Better n b (x ∷ xs)) (sym is)
+          (record {
+            above = h.above;
+            below = h.below;
+            least = λ y e k.
+                elim (or_cases (eqb y x) (among y xs) e) [ inl z ↦ absurd (omega (arith, m, k, eqb-true y x z)) | inr z ↦ h.least y z k ];
+            found = elim h.found [ inl e ↦ inl e | inr e ↦ inr (or_right (eqb r x) (among r xs) e) ];
+          })
     ]
-  where
-    met : (b' y : ℕ) → Nearest n b' xs (fold (nearer n) b' xs) → among y (x ∷ xs) ≡ true → n < y
-        → (n < x → (fold (nearer n) b' xs ≡ 0 → ⊥) × (fold (nearer n) b' xs ≤ x))
-        → (fold (nearer n) b' xs ≡ 0 → ⊥) × (fold (nearer n) b' xs ≤ y)
-    met b' y r e k here =
-        elim (or_cases (eqb y x) (among y xs) e) [
-          | inl s ↦
-              let same = eqb-true y x s in
-              let p = here (omega arith) in
-              (p.0, omega (arith, p.1))
-          | inr s ↦ r.least y s k
-        ]
 
-    taken : ((c : ℕ) → ((c ≡ 0 → ⊥) → n < c) → Nearest n c xs (fold (nearer n) c xs)) → n < x → (b ≡ 0) ⊎ (x < b) → ((b ≡ 0 → ⊥) → x ≤ b) → Nearest n b (x ∷ xs) (fold (nearer n) b (x ∷ xs))
-    taken rest l c under =
-        subst (λ (b' : ℕ). Nearest n b (x ∷ xs) (fold (nearer n) b' xs)) (sym (nearer_new n b x l c))
-        (let r = rest x (λ _. l) in
-        let z : x ≡ 0 → ⊥ = λ e. omega arith in
-        let p = r.not_past z in
-        record {
-          above = r.above;
-          not_past = λ d. (p.0, omega (arith, under d, p.1));
-          least = λ y e k. met x y r e k (λ _. p);
-          found =
-              λ d.
-              elim (r.found d) [
-                | inl e ↦ inr (or_left (eqb (fold (nearer n) x xs) x) (among (fold (nearer n) x xs) xs) (eq-eqb (fold (nearer n) x xs) x e))
-                | inr e ↦ inr (or_right (eqb (fold (nearer n) x xs) x) (among (fold (nearer n) x xs) xs) e)
-              ];
-        })
+pub next_nearest : (n : ℕ) (numbers : List ℕ) → Nearest n numbers (next_above n numbers)
+next_nearest n [] = record { above = λ d. absurd (d refl); least = λ x e. absurd (both_ways false refl e); found = λ d. absurd (d refl) }
+next_nearest n (x ∷ xs) =
+    elim (cases_lt n x) [
+      | inl m ↦
+          let h = better n x xs m in
+          let r = fold min x (filter (ltb n) xs) in
+          let is : next_above n (x ∷ xs) ≡ r =
+          ap (λ (ys : List ℕ). unwrap_or (reduce min ys) 0) (cond-true (ltb n x) (x ∷ filter (ltb n) xs) (filter (ltb n) xs) (lt-ltb n x m))
+          in
+          let some : r ≡ 0 → ⊥ = λ z. omega (arith, z, h.above) in
+          subst (Nearest n (x ∷ xs)) (sym is)
+          (record {
+            above = λ d. h.above;
+            least = λ y e k.
+                elim (or_cases (eqb y x) (among y xs) e) [ inl z ↦ (some, omega (arith, h.below, eqb-true y x z)) | inr z ↦ (some, h.least y z k) ];
+            found = λ d.
+                elim h.found [
+                  | inl e ↦ or_left (eqb r x) (among r xs) (eq-eqb r x e)
+                  | inr e ↦ or_right (eqb r x) (among r xs) e
+                ];
+          })
+      | inr m ↦
+          let h = next_nearest n xs in
+          let r = next_above n xs in
+          let is : next_above n (x ∷ xs) ≡ r =
+          ap (λ (ys : List ℕ). unwrap_or (reduce min ys) 0) (cond-false (ltb n x) (x ∷ filter (ltb n) xs) (filter (ltb n) xs) (le-ltb n x m))
+          in
+          subst (Nearest n (x ∷ xs)) (sym is)
+          (record {
+            above = h.above;
+            least = λ y e k.
+                elim (or_cases (eqb y x) (among y xs) e) [ inl z ↦ absurd (omega (arith, m, k, eqb-true y x z)) | inr z ↦ h.least y z k ];
+            found = λ d. or_right (eqb r x) (among r xs) (h.found d);
+          })
+    ]
 
-    left : ((c : ℕ) → ((c ≡ 0 → ⊥) → n < c) → Nearest n c xs (fold (nearer n) c xs)) → (n < x → (b ≡ 0 → ⊥) × (b ≤ x)) → Nearest n b (x ∷ xs) (fold (nearer n) b (x ∷ xs))
-    left rest c =
-        subst (λ (b' : ℕ). Nearest n b (x ∷ xs) (fold (nearer n) b' xs)) (sym (nearer_old n b x c))
-        (let r = rest b h in
-        record {
-          above = r.above;
-          not_past = r.not_past;
-          least =
-              λ y e k.
-              met b y r e k
-              (λ l.
-              let p = r.not_past (c l).0 in
-              (p.0, omega (arith, p.1, (c l).1)));
-          found =
-              λ d.
-              elim (r.found d) [
-                | inl e ↦ inl e
-                | inr e ↦ inr (or_right (eqb (fold (nearer n) b xs) x) (among (fold (nearer n) b xs) xs) e)
-              ];
-        })
-
-pub next_nearest : (n : ℕ) (numbers : List ℕ) → Nearest n 0 numbers (next_above n numbers)
-next_nearest n numbers = nearest n numbers 0 (λ d. absurd (d refl))
+-- a number that is found is above n
+pub next_some : (n : ℕ) (xs : List ℕ) (k : ℕ) → reduce min (filter (ltb n) xs) ≡ Some k → n < k
+next_some n [] k e = absurd (none-some k e)
+next_some n (x ∷ xs) k e =
+    elim (cases_lt n x) [
+      | inl m ↦
+          let is = ap (reduce min) (cond-true (ltb n x) (x ∷ filter (ltb n) xs) (filter (ltb n) xs) (lt-ltb n x m)) in
+          subst (λ (r : ℕ). n < r) (cond_some true (fold min x (filter (ltb n) xs)) k (sym is ∙ e)).1 (better n x xs m).above
+      | inr m ↦
+          let is = ap (reduce min) (cond-false (ltb n x) (x ∷ filter (ltb n) xs) (filter (ltb n) xs) (le-ltb n x m)) in
+          next_some n xs k (sym is ∙ e)
+    ]
 
 -- a number that stands in a list has a place there, and the other way round
 pub among_place : (xs : List ℕ) (k : ℕ) → among k xs ≡ true → place xs k < length xs

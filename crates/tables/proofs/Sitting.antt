@@ -4,7 +4,7 @@ use Rattle.std.proofs.Math.ListN.{get_or-map}
 use Rattle.std.proofs.lemmas.List.{length-map, get_or-set_same, get_or-set_other}
 use Rattle.std.proofs.lemmas.Option.{cond_some, none-some}
 use Rattle.std.proofs.lemmas.Bool.{and_from, and_parts, cases_eq, cases_lt, cond-false, cond-true, cond_both, le-ltb, lt-ltb, ltb-true, ltb-false, cases_Bool, ne_eqb, not-true}
-use Rattle.std.specs.List.{filter_map, position, position_or_len, reduce}
+use Rattle.std.specs.List.{filter, filter_map, position, position_or_len, reduce}
 use Rattle.ledger.specs.declared.job.Status.{Status}
 use Rattle.ledger.specs.declared.job.Status.TheVariants.{Working, Ended}
 use Rattle.ledger.specs.Jobs.{is_ended}
@@ -14,8 +14,9 @@ use Rattle.tables.specs.declared.seats.Seats.{Seats}
 use Rattle.tables.specs.declared.slot.Event.{Event}
 use Rattle.tables.specs.declared.slot.Event.TheVariants.{Through, Stop, Wound, Reopen}
 use Rattle.tables.specs.Slots.{moved, near}
-use Rattle.tables.specs.Seats.{above, after, given, has, nearer, next_above, number_in, numbers_in, place, proper, seated, slot, state_in}
+use Rattle.tables.specs.Seats.{above, after, given, has, next_above, number_in, numbers_in, place, proper, seated, slot, state_in}
 use Rattle.tables.specs.Views.{numbers_of, states_of}
+use Rattle.tables.proofs.Places.{next_some}
 
 -- a slot has the number 0 just where its state is ended, and is near where it waits
 free_in : (o : Option Slot) → proper o ≡ true → eqb (number_in o) 0 ≡ is_ended (state_in o)
@@ -102,69 +103,23 @@ first_with (Some s ∷ os) k d =
 pub given_some : (k : ℕ) → (k ≡ 0 → ⊥) → given k ≡ Some k
 given_some k d = let z = ne_eqb k 0 d in rw (z, given) refl
 
--- one step of the search: a number is taken, or passed over, as the 0 of a free slot is
-abbrev better : ℕ → ℕ → ℕ → Bool
-better n b x = ltb n x && (eqb b 0 || ltb x b)
-
-taken : (n b : ℕ) (ns : List ℕ) (x : ℕ) → better n b x ≡ true → fold (nearer n) b (x ∷ ns) ≡ fold (nearer n) x ns
-taken n b ns x e = ap (λ (c : ℕ). fold (nearer n) c ns) (cond-true (better n b x) x b e)
-
-passed : (n b : ℕ) (ns : List ℕ) (x : ℕ) → better n b x ≡ false → fold (nearer n) b (x ∷ ns) ≡ fold (nearer n) b ns
-passed n b ns x e = ap (λ (c : ℕ). fold (nearer n) c ns) (cond-false (better n b x) x b e)
-
-low : (n b x : ℕ) → ltb n x ≡ false → better n b x ≡ false
-low n b x e = ap (λ (t : Bool). t && (eqb b 0 || ltb x b)) e
-
-never : (n b : ℕ) → better n b 0 ≡ false
-never n b = low n b 0 (le-ltb n 0 (omega arith))
-
--- where a number is had, a number is kept
-some_nearer : (n b x : ℕ) → (b ≡ 0 → ⊥) → nearer n b x ≡ 0 → ⊥
-some_nearer n b x d =
-    cond_both (ltb n x && (eqb b 0 || ltb x b)) x b (λ (y : ℕ). y ≡ 0 → ⊥) (λ t z. omega (arith, z, ltb-true n x (and_parts _ _ t).0)) (λ f. d)
-
-some_kept : (n b : ℕ) (xs : List ℕ) → (b ≡ 0 → ⊥) → fold (nearer n) b xs ≡ 0 → ⊥
-some_kept n b [] d = d
-some_kept n b (x ∷ xs) d = some_kept n (nearer n b x) xs (some_nearer n b x d)
-
--- the least number above n: where one is had already, and from the beginning
-least_from :
-    (n b : ℕ) (slots : List (Option Slot)) → (b ≡ 0 → ⊥) → fold (nearer n) b (numbers_in slots) ≡ fold min b (filter_map (above n) slots)
-least_from n b [] d = refl
-least_from n b (None ∷ os) d = passed n b (numbers_in os) 0 (never n b) ∙ least_from n b os d
-least_from n b (Some s ∷ os) d =
-    let z = ne_eqb b 0 d in
+-- the numbers above n are those of the jobs above n, and none of them is 0
+above_n : (n : ℕ) (slots : List (Option Slot)) → filter_map (above n) slots ≡ filter (ltb n) (numbers_in slots)
+above_n n [] = refl
+above_n n (None ∷ os) = above_n n os ∙ sym (cond-false (ltb n 0) (0 ∷ filter (ltb n) (numbers_in os)) (filter (ltb n) (numbers_in os)) (le-ltb n 0 (omega arith)))
+above_n n (Some s ∷ os) =
     elim (cases_Bool (ltb n s.number)) [
-      | inr e ↦ passed n b (numbers_in os) s.number (low n b s.number e) ∙ rw (e, above) (least_from n b os d)
-      | inl e ↦
-          elim (cases_Bool (ltb s.number b)) [
-            | inl l ↦
-                let small : min b s.number ≡ s.number = omega (arith, ltb-true s.number b l) in
-                let t : better n b s.number ≡ true = rw (e, z, l) refl in
-                taken n b (numbers_in os) s.number t ∙ least_from n s.number os (λ k. omega (arith, k, ltb-true n s.number e))
-                ∙ rw (e, above) (ap (λ (c : ℕ). fold min c (filter_map (above n) os)) (sym small))
-            | inr l ↦
-                let small : min b s.number ≡ b = omega (arith, ltb-false s.number b l) in
-                let t : better n b s.number ≡ false = rw (e, z, l) refl in
-                passed n b (numbers_in os) s.number t ∙ least_from n b os d
-                ∙ rw (e, above) (ap (λ (c : ℕ). fold min c (filter_map (above n) os)) (sym small))
-          ]
+      | inl e ↦ rw (e, above, filter) (ap (λ (ks : List ℕ). s.number ∷ ks) (above_n n os))
+      | inr e ↦ rw (e, above, filter) (above_n n os)
     ]
+
+given_again : (n : ℕ) (numbers : List ℕ) (o : Option ℕ) → reduce min (filter (ltb n) numbers) ≡ o → o ≡ given (unwrap_or o 0)
+given_again n numbers None e = refl
+given_again n numbers (Some k) e = sym (given_some k (λ z. omega (arith, z, next_some n numbers k e)))
 
 pub least_above : (n : ℕ) (slots : List (Option Slot)) → reduce min (filter_map (above n) slots) ≡ given (next_above n (numbers_in slots))
-least_above n [] = refl
-least_above n (None ∷ os) = least_above n os ∙ ap given (sym (passed n 0 (numbers_in os) 0 (never n 0)))
-least_above n (Some s ∷ os) =
-    elim (cases_Bool (ltb n s.number)) [
-      | inr e ↦ rw (e, above) (least_above n os) ∙ ap given (sym (passed n 0 (numbers_in os) s.number (low n 0 s.number e)))
-      | inl e ↦
-          let d : s.number ≡ 0 → ⊥ = λ k. omega (arith, k, ltb-true n s.number e) in
-          let r = least_from n s.number os d in
-          let t : better n 0 s.number ≡ true = rw e refl in
-          rw (e, above) (ap Some (sym r))
-          ∙ sym (given_some (fold (nearer n) s.number (numbers_in os)) (some_kept n s.number (numbers_in os) d))
-          ∙ ap given (sym (taken n 0 (numbers_in os) s.number t))
-    ]
+least_above n slots =
+    ap (reduce min) (above_n n slots) ∙ given_again n (numbers_in slots) (reduce min (filter (ltb n) (numbers_in slots))) refl
 
 no_zero : (slots : List (Option Slot)) → ((i : ℕ) → proper (get_or slots i None) ≡ true) → position_or_len (has (Some 0)) slots ≡ length slots
 no_zero [] h = refl
@@ -202,19 +157,12 @@ seated_none i h =
       | inr l ↦ l
     ]
 
--- a job's number is not 0, and where there is none it is
+-- a job's number is not 0
 pub given_at : (i k : ℕ) → Some k ≡ given i → (i ≡ 0 → ⊥) × (i ≡ k)
 given_at i k h =
     elim (cases_eq i 0) [
       | inr d ↦ let p = cond_some true i k (sym (h ∙ given_some i d)) in (d, p.1)
       | inl e ↦ absurd (none-some k (sym (h ∙ ap given e)))
-    ]
-
-pub given_none : (i : ℕ) → None ≡ given i → i ≡ 0
-given_none i h =
-    elim (cases_eq i 0) [
-      | inr d ↦ absurd (none-some i (h ∙ given_some i d))
-      | inl e ↦ e
     ]
 
 pub given_back : (i : ℕ) → unwrap_or (given i) 0 ≡ i

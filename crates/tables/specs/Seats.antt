@@ -1,5 +1,6 @@
 -- Which job sits in which of the 16 slots, and in what state.
-use Rattle.std.specs.Prelude.{ℕ, suc, Bool, true, false, cond, not, ◌&&◌, ◌||◌, List, [], ◌∷◌, length, map, fold, Some, None, Option, ◌==◌, nat_le, nat_lt, slice_index_or}
+use Rattle.std.specs.Prelude.{ℕ, suc, Bool, true, false, cond, not, ◌&&◌, ◌||◌, List, [], ◌∷◌, length, map, min, Some, None, Option, unwrap_or, ◌==◌, nat_le, nat_lt, slice_index_or}
+use Rattle.std.specs.List.{filter, reduce}
 use Rattle.granules.specs.Paths.{among}
 use Rattle.ledger.specs.declared.job.Status.{Status}
 use Rattle.ledger.specs.declared.job.Status.TheVariants.{Ended}
@@ -74,13 +75,9 @@ abbrev pub all_given : ℕ → List ℕ → Bool
 all_given opened [] = true
 all_given opened (x ∷ xs) = nat_le x opened && all_given opened xs
 
--- The better of a number so far, 0 for none, and another: the smaller of those above n.
-abbrev pub nearer : ℕ → ℕ → ℕ → ℕ
-nearer n best x = cond (nat_lt n x && (best == 0 || nat_lt x best)) x best
-
 -- The smallest number above n; 0 if there is none.
 abbrev pub next_above : ℕ → List ℕ → ℕ
-next_above n numbers = fold (nearer n) 0 numbers
+next_above n numbers = unwrap_or (reduce min (filter (nat_lt n) numbers)) 0
 
 -- A number, if it is a job's.
 abbrev pub given : ℕ → Option ℕ

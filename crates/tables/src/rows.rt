@@ -1,4 +1,5 @@
-// Which row of the table of refusals a job's state meets.
+// Which row of the table of refusals a job's state meets. Each of the four says which states pass and what the others earn: as one
+// function over the state that passes, the table would be spelled in its arguments.
 ghost use Rattle.std.specs.Prelude.{◌≡◌, IfOk};
 ghost use Rattle.std.specs.Result.{result_err};
 ghost use Rattle.ledger.specs.declared.job.Status.TheVariants.{Waiting};

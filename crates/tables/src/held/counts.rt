@@ -6,7 +6,8 @@ use super::Held;
 use crate::head::Row;
 use modes::system::ModeSystem;
 
-// The counts without one holder of a mode.
+// The counts without one holder of a mode. A mode is a code, as it is to callers; that it is below 16 comes from a system's laws
+// or from the counts, and only these two, a put and a raise ask for it.
 pub(super) fn without(mut counts: [u8; 16], mode: u8) -> [u8; 16]
     requires mode { mode < 16 }
     requires held { one mode mode ≤ slice_index counts mode }

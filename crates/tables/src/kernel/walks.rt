@@ -47,7 +47,8 @@ impl Walker {
 }
 
 impl<M: ModeSystem, S: Shelf> Core<M, S> {
-    // A job's mode on a granule raised.
+    // A job's mode on a granule raised. That it sits in a slot, here and in other clauses, ties it to the seats as they are
+    // at the call, and so is no invariant of a type.
     fn raise(&mut self, job: u32, granule: u8, mode: u8)
         requires seated { slot (numbers_of self.old.seats) job < 16 }
         requires mode { mode < 16 }
