@@ -13,7 +13,8 @@ use operations::{Action, Operation, Outcome};
 use shelf::Shelf;
 
 impl<M: ModeSystem, S: Shelf> Engine<M, S> {
-    // An operation of a working job: it takes its locks and is carried out, or waits for an older job.
+    // An operation of a working job: it takes its locks and is carried out, or waits for an older job, and then there is no
+    // outcome.
     pub fn carry(&mut self, job: u32, operation: Operation) -> Result<Option<Outcome>, Refusal>
         ensures served { Served M.ModeSystem.meaning (Carry job operation) (state S.Shelf.words self.old) (state S.Shelf.words self.new) (as_outcome result) }
         ensures shape { InShape operation.action result }
