@@ -1,8 +1,8 @@
 -- The first place of a number in a list, and lists whose numbers are apart and given.
-use Rattle.std.proofs.Common.{◌≡◌, ℕ, zero, suc, ◌<◌, ◌≤◌, true, false, not, ◌&&◌, ◌||◌, eqb, ltb, leb, ◌⊎◌, List, [], ◌∷◌, length, get_or, set, fold, min, Some, unwrap_or, sym, refl, ap, ◌∙◌, subst, inl, inr, arith}
+use Rattle.std.proofs.Common.{◌≡◌, ℕ, zero, suc, ◌<◌, ◌≤◌, true, false, not, ◌||◌, eqb, ltb, leb, ◌⊎◌, List, [], ◌∷◌, length, get_or, set, fold, min, Some, unwrap_or, sym, refl, ap, ◌∙◌, subst, inl, inr, arith}
 use Rattle.std.proofs.lemmas.List.{get_or_past}
 use Rattle.std.proofs.lemmas.Option.{cond_some, none-some}
-use Rattle.std.proofs.lemmas.Bool.{cases_eq, cases_lt, and_parts, and_left, and_right, cond-true, cond-false, lt-ltb, le-ltb, and_from, or_cases, or_left, or_right, or_parts, or_from, both_ways, not-true, not_from_false, eq-eqb, ne_eqb, eqb-true, le-leb, leb-true}
+use Rattle.std.proofs.lemmas.Bool.{cases_eq, cases_lt, and_parts, cond-true, cond-false, lt-ltb, le-ltb, and_from, or_cases, or_left, or_right, or_parts, or_from, both_ways, not-true, not_from_false, eq-eqb, ne_eqb, eqb-true, le-leb, leb-true}
 use Rattle.granules.specs.Paths.{among}
 use Rattle.std.specs.List.{filter, reduce}
 use Rattle.tables.specs.Seats.{place, distinct, all_given, next_above}

@@ -1,9 +1,9 @@
 -- What the seats say of each slot: of its number and of the state of the job in it.
-use Rattle.std.proofs.Common.{◌≡◌, ℕ, suc, fold, min, ltb, ◌||◌, ◌<◌, ◌≤◌, [], ◌∷◌, Bool, true, false, not, ◌&&◌, eqb, Option, Some, None, unwrap_or, List, length, get_or, set, map, sym, refl, ap, ap₂, cond, ◌∙◌, subst, inl, inr, lit<, arith}
+use Rattle.std.proofs.Common.{◌≡◌, ℕ, suc, min, ltb, ◌<◌, ◌≤◌, [], ◌∷◌, true, not, eqb, Option, Some, None, unwrap_or, List, length, get_or, set, sym, refl, ap, ap₂, cond, ◌∙◌, subst, inl, inr, lit<, arith}
 use Rattle.std.proofs.Math.ListN.{get_or-map}
 use Rattle.std.proofs.lemmas.List.{length-map, get_or-set_same, get_or-set_other}
 use Rattle.std.proofs.lemmas.Option.{cond_some, none-some}
-use Rattle.std.proofs.lemmas.Bool.{and_from, and_parts, cases_eq, cases_lt, cond-false, cond-true, cond_both, le-ltb, lt-ltb, ltb-true, ltb-false, cases_Bool, ne_eqb, not-true}
+use Rattle.std.proofs.lemmas.Bool.{and_from, and_parts, cases_eq, cases_lt, cond-false, cond-true, le-ltb, lt-ltb, ltb-true, cases_Bool, ne_eqb, not-true}
 use Rattle.std.specs.List.{filter, filter_map, position, position_or_len, reduce}
 use Rattle.ledger.specs.declared.job.Status.{Status}
 use Rattle.ledger.specs.declared.job.Status.TheVariants.{Working, Ended}

@@ -1,5 +1,5 @@
 -- What the events of a slot leave of a state.
-use Rattle.std.proofs.Common.{◌≡◌, ℕ, ◌<◌, Bool, true, false, None, Option, Some, refl}
+use Rattle.std.proofs.Common.{◌≡◌, ◌<◌, Bool, true, false, None, Option, Some, refl}
 use Rattle.std.proofs.lemmas.Bool.{and_from, and_parts, both_ways, lt-ltb}
 use Rattle.operations.specs.declared.operation.Operation.{Operation}
 use Rattle.ledger.specs.declared.job.Status.{Status}

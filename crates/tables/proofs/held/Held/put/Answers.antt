@@ -1,6 +1,5 @@
 use Rattle.std.proofs.Common.{◌≡◌, ℕ, ◌+◌, ◌<◌, ◌≤◌, List, [], length, get_or, sym, ap, ◌∙◌, subst, arith}
 use Rattle.std.proofs.lemmas.List.{length-set}
-use Rattle.tables.specs.Grids.{cell}
 use Rattle.tables.specs.Heads.{one, tally}
 use Rattle.tables.proofs.Grids.{long_at, long_set}
 use Rattle.tables.proofs.Tallies.{agree_put, held_small, held_counted, tally_le}

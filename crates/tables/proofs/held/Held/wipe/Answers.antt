@@ -46,5 +46,3 @@ returns-2 c =
           c.release.ensures.rows inv.0 inv.1 (omega arith);
     }
 
-pub returns : goal.returns
-returns c = absurd (omega (arith, c.loop-granule-test.false, c.loop-granule.auto.granule-end))

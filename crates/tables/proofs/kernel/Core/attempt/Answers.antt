@@ -4,15 +4,10 @@ use Rattle.granules.proofs.Kept.{path_inside}
 use Rattle.ledger.specs.declared.job.Status.TheVariants.{Ended}
 use Rattle.tables.specs.declared.slot.Event.{Event}
 use Rattle.tables.specs.Seats.{slot}
-use Rattle.tables.specs.Slots.{moved, near}
+use Rattle.tables.specs.Slots.{moved}
 use Rattle.tables.specs.Views.{model, numbers_of, states_of}
-use Rattle.tables.proofs.Slots.{walked_near}
 use Rattle.tables.proofs.Tries.{attempt_view}
 use Rattle.tables.proofs.kernel.Core.attempt.Goals as goal
-
-pub turn-requires : goal.turn-requires
-turn-requires g c =
-    ap near c.of_walk.ensures.value ∙ walked_near c.args.operation c.walk-complete.result c.requires.near
 
 pub returns : goal.returns
 returns g c =

@@ -1,7 +1,5 @@
 use Rattle.std.proofs.Common.{◌≡◌, ℕ, Bool, sym, ap, ◌∙◌, arith}
-use Rattle.std.proofs.lemmas.Bool.{or_from}
 use Rattle.granules.specs.Below.{some_below}
-use Rattle.granules.proofs.Below.{some_more}
 use Rattle.tables.specs.Meetings.{holds_up_at}
 use Rattle.tables.proofs.Meetings.{held_up, not_held_up}
 use Rattle.tables.proofs.kernel.Core.is_held_up.Goals as goal
@@ -14,14 +12,6 @@ returns-then-holds_up g c =
           (held_up g.M.ModeSystem.meaning g.met.M.ModeSystem.lawful g.S.Shelf.words c.args.self.now c.args.claim.asker c.args.claim.granule c.args.claim.target
           c.loop-slot.slot (omega arith) (sym c.if-holds_up.ensures.value));
     }
-
-pub loop-slot-preserved : goal.loop-slot-preserved
-loop-slot-preserved g c =
-    let here : ℕ → Bool =
-    holds_up_at g.M.ModeSystem.meaning c.args.self.now.seats c.args.self.now.held c.args.claim.asker c.args.claim.granule c.args.claim.target
-    in
-    some_more c.loop-slot.slot here
-    ∙ or_from (some_below c.loop-slot.slot here) (here c.loop-slot.slot) c.loop-slot.invariant (sym c.if-holds_up.ensures.value)
 
 pub returns : goal.returns
 returns g c =

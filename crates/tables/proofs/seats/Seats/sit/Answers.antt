@@ -1,10 +1,9 @@
-use Rattle.std.proofs.Common.{◌≡◌, ℕ, ◌<◌, true, set, Option, Some, length, ap, ◌∙◌, refl, arith}
+use Rattle.std.proofs.Common.{◌<◌, set, Option, Some, ap, ◌∙◌, arith}
 use Rattle.std.proofs.lemmas.List.{length-set, map-set}
-use Rattle.std.proofs.lemmas.Bool.{and_from, ne_eqb}
 use Rattle.ledger.specs.declared.job.Status.TheVariants.{Working}
 use Rattle.tables.specs.declared.slot.Slot.{Slot}
-use Rattle.tables.specs.Seats.{distinct, all_given, number_in, proper, state_in}
-use Rattle.tables.specs.Views.{numbers_of, states_of}
+use Rattle.tables.specs.Seats.{distinct, all_given, number_in, state_in}
+use Rattle.tables.specs.Views.{numbers_of}
 use Rattle.tables.proofs.Places.{distinct_new, given_more, given_set}
 use Rattle.tables.proofs.Sitting.{each_set, working_proper}
 use Rattle.tables.proofs.seats.Seats.sit.Goals as goal

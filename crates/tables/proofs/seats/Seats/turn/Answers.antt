@@ -1,10 +1,10 @@
-use Rattle.std.proofs.Common.{◌≡◌, None, true, set, length, get_or, sym, ap, ◌∙◌, refl, arith}
+use Rattle.std.proofs.Common.{None, set, get_or, sym, ap, ◌∙◌, refl, arith}
 use Rattle.std.proofs.lemmas.List.{length-set, map-set}
 use Rattle.std.proofs.Math.Seq.{map-set_same}
 use Rattle.ledger.specs.declared.job.Status.{Status}
-use Rattle.tables.specs.Seats.{after, distinct, all_given, number_in, proper, state_in}
+use Rattle.tables.specs.Seats.{distinct, all_given, number_in, proper, state_in}
 use Rattle.tables.specs.Slots.{moved}
-use Rattle.tables.specs.Views.{numbers_of, states_of}
+use Rattle.tables.specs.Views.{states_of}
 use Rattle.tables.proofs.Sitting.{after_number, after_state, each_set, state_at}
 use Rattle.tables.proofs.Slots.{stays_proper}
 use Rattle.tables.proofs.seats.Seats.turn.Goals as goal
