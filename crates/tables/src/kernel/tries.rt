@@ -30,9 +30,9 @@ impl<M: ModeSystem, S: Shelf> Core<M, S> {
         let walker = Walker {
             job,
             kind: operation.action.kind(),
-            goal: operation.granule as u8,
+            goal: operation.granule as usize,
         };
-        let path = tree.path(walker.goal as usize);
+        let path = tree.path(walker.goal);
         let seat = self.seats.seat(job);
         let complete = self.walk(walker, &path);
         self.seats.turn(seat, Event::of_walk(operation, complete));

@@ -20,7 +20,7 @@ use shelf::Shelf;
 pub struct Walker {
     pub job: u32,
     pub kind: Kind,
-    pub goal: u8,
+    pub goal: usize,
 }
 
 // What comes of one granule of a walk: all beneath is covered and the walk complete, it goes on below, or an older job
@@ -37,7 +37,7 @@ impl Walker {
     fn target<M: ModeSystem>(self, system: &M, granule: u8, mode: u8) -> u8
         ensures value { result ≡ target M.ModeSystem.meaning self.kind self.goal granule mode }
     {
-        let part = if granule == self.goal {
+        let part = if granule as usize == self.goal {
             system.full(self.kind)
         } else {
             system.intent(self.kind)
