@@ -23,6 +23,7 @@ pub enum Call<'a> {
     Look(u32),
 }
 
+// A refusal is one of the answers, and no `Err` beside them: a history lists what was answered, and a refusal with the rest.
 #[derive(Clone, Copy, PartialEq, Eq, Debug)]
 pub enum Answer {
     // the number of a job that was opened

@@ -18,7 +18,8 @@ pub enum Status {
     Ended,
 }
 
-// What a job notes on a record so that its work there can be taken back.
+// What a job notes on a record so that its work there can be taken back. To have changed nothing is a note like the others, with its own
+// row in each table below.
 #[derive(Clone, Copy, PartialEq, Eq, Debug)]
 pub enum Note {
     // it has changed nothing there
