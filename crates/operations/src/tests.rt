@@ -91,16 +91,14 @@ fn answers_in_writing(rt: HostRuntime) -> Result<(), Fail> {
 #[test]
 fn tables_and_their_faults(rt: HostRuntime) {
     assert!(rt; Tree::new(&[0, 0, 1, 2, 3, 4, 5, 6], 8).is_ok());
-    assert_eq!(rt; fault(Tree::new(&[0, 0, 1, 2, 3, 4, 5, 6, 7], 9)), 12);
-    assert_eq!(rt; fault(Tree::new(&[0, 1], 2)), 11);
-    assert_eq!(rt; fault(Tree::new(&[1, 0], 2)), 11);
-    assert_eq!(rt; fault(Tree::new(&[0, 0], 3)), 10);
-    assert_eq!(rt; fault(Tree::new(&[], 0)), 10);
+    assert_eq!(rt; fault(Tree::new(&[0, 0, 1, 2, 3, 4, 5, 6, 7], 9)), Some(12));
+    assert_eq!(rt; fault(Tree::new(&[0, 1], 2)), Some(11));
+    assert_eq!(rt; fault(Tree::new(&[1, 0], 2)), Some(11));
+    assert_eq!(rt; fault(Tree::new(&[0, 0], 3)), Some(10));
+    assert_eq!(rt; fault(Tree::new(&[], 0)), Some(10));
 }
 
-fn fault(made: Result<Tree, Unfit>) -> u8 {
-    match made {
-        Ok(_) => 0,
-        Err(unfit) => unfit.number(),
-    }
+// The number of what is wrong with a table.
+fn fault(made: Result<Tree, Unfit>) -> Option<u8> {
+    made.err().map(|unfit| unfit.number())
 }

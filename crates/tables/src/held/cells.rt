@@ -3,7 +3,7 @@ ghost use Rattle.std.specs.Prelude.{◌≡◌, ◌<◌, replicate, slice_set};
 ghost use Rattle.tables.specs.Grids.{cell, with_cell};
 
 use super::Held;
-use super::counts::{with, without};
+use super::counts::moved;
 use crate::grid::Grid;
 use crate::seat::Seat;
 
@@ -29,8 +29,7 @@ impl Held {
         ensures rows { self.new.modes.rows ≡ with_cell self.old.modes.rows seat.slot granule mode }
     {
         let old = self.modes.get(seat, granule);
-        let others = without(self.counts[granule as usize], old);
-        self.counts[granule as usize] = with(others, mode);
+        self.counts[granule as usize] = moved(self.counts[granule as usize], old, mode);
         self.modes.put(seat, granule, mode);
     }
 

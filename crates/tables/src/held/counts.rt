@@ -6,29 +6,21 @@ use super::Held;
 use crate::head::Row;
 use modes::system::ModeSystem;
 
-// The counts without one holder of a mode. A mode is a code, as it is to callers; that it is below 16 comes from a system's laws
-// or from the counts, and only these two, a put and a raise ask for it.
-pub(super) fn without(mut counts: [u8; 16], mode: u8) -> [u8; 16]
-    requires mode { mode < 16 }
-    requires held { one mode mode ≤ slice_index counts mode }
-    ensures value { (m : ℕ) → slice_index result m + one mode m ≡ slice_index counts m }
+// The counts where one holder goes from a mode to another. A mode is a code, as it is to callers; that it is below 16 comes
+// from a system's laws or from the counts, and only this, a put and a raise ask for it.
+pub(super) fn moved(mut counts: [u8; 16], from: u8, to: u8) -> [u8; 16]
+    requires from { from < 16 }
+    requires to { to < 16 }
+    requires held { one from from ≤ slice_index counts from }
+    requires room { slice_index counts to < 255 }
+    ensures value { (m : ℕ) → slice_index result m + one from m ≡ slice_index counts m + one to m }
     ensures len { length result ≡ 16 }
 {
-    if mode != 0 {
-        counts[mode as usize] -= 1;
+    if from != 0 {
+        counts[from as usize] -= 1;
     }
-    counts
-}
-
-// The counts with one holder of a mode more.
-pub(super) fn with(mut counts: [u8; 16], mode: u8) -> [u8; 16]
-    requires mode { mode < 16 }
-    requires room { slice_index counts mode < 255 }
-    ensures value { (m : ℕ) → slice_index result m ≡ slice_index counts m + one mode m }
-    ensures len { length result ≡ 16 }
-{
-    if mode != 0 {
-        counts[mode as usize] += 1;
+    if to != 0 {
+        counts[to as usize] += 1;
     }
     counts
 }

@@ -5,43 +5,34 @@ use Rattle.tables.proofs.Grids.{long_at, long_set}
 use Rattle.tables.proofs.Tallies.{agree_put, held_small, held_counted, tally_le}
 use Rattle.tables.proofs.held.Held.put.Goals as goal
 
-pub without-others-requires : goal.without-others-requires
-without-others-requires c =
+pub moved-requires : goal.moved-requires
+moved-requires c =
     let t = c.args.self.now in
     let near : c.args.seat.slot < length t.modes.rows = omega (arith, t.modes.full, c.args.seat.within) in
     let old = sym (c.get-old.ensures.value 0) in
     record {
-      mode =
+      from =
           subst (λ (m : ℕ). m < 16) old
           (held_small t.modes.rows t.counts c.args.seat.slot c.args.granule near (omega (arith, t.counted.0, c.ranges.granule.fits)) t.counted.1 t.agree);
+      to = c.requires;
       held =
           subst (λ (m : ℕ). one m m ≤ get_or (get_or t.counts c.args.granule []) m 0) old
           (held_counted t.modes.rows t.counts c.args.seat.slot c.args.granule near t.agree);
-    }
-
-pub with-requires : goal.with-requires
-with-requires c =
-    let t = c.args.self.now in
-    record {
-      mode = c.requires;
-      room =
-          omega
-          (arith, c.without-others.ensures.value c.args.mode, t.agree c.args.granule c.args.mode, tally_le t.modes.rows c.args.granule c.args.mode, t.modes.full);
+      room = omega (arith, t.agree c.args.granule c.args.mode, tally_le t.modes.rows c.args.granule c.args.mode, t.modes.full);
     }
 
 pub invariant_of-self : goal.invariant_of-self
 invariant_of-self c =
     let t = c.args.self.now in
     let x = c.args.granule in
-    let old = c.get-old.ensures.value 0 in
     let within : c.args.seat.slot < length t.modes.rows = omega (arith, t.modes.full, c.args.seat.within) in
     record {
-      counted = (length-set t.counts _ _ ∙ t.counted.0, long_set 16 t.counts _ _ c.with.ensures.len t.counted.1);
+      counted = (length-set t.counts _ _ ∙ t.counted.0, long_set 16 t.counts _ _ c.moved.ensures.len t.counted.1);
       agree = λ y m.
-          agree_put t.modes.rows t.counts c.args.seat.slot x c.args.mode c.with.result within (omega (arith, t.counted.0, c.ranges.granule.fits))
+          agree_put t.modes.rows t.counts c.args.seat.slot x c.args.mode c.moved.result within (omega (arith, t.counted.0, c.ranges.granule.fits))
           (omega (arith, long_at 256 t.modes.rows c.args.seat.slot within t.modes.long, c.ranges.granule.fits)) t.agree
           (λ n.
-          subst (λ (h : ℕ). get_or c.with.result n 0 + one h n ≡ get_or (get_or t.counts x []) n 0 + one c.args.mode n) old
-          (omega (arith, c.with.ensures.value n, c.without-others.ensures.value n))) y m
+          subst (λ (h : ℕ). get_or c.moved.result n 0 + one h n ≡ get_or (get_or t.counts x []) n 0 + one c.args.mode n) (c.get-old.ensures.value 0)
+          (c.moved.ensures.value n)) y m
           ∙ ap (λ (rows : List (List ℕ)). tally rows y m) (sym c.put.ensures.rows);
     }
