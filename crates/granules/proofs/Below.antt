@@ -1,6 +1,6 @@
 -- What tests, counts and sums over the numbers below n say at one of them.
 use Rattle.std.proofs.Common.{◌≡◌, ℕ, zero, suc, ◌+◌, ◌<◌, ◌≤◌, Bool, true, false, cond, ◌||◌, sym, refl, ap, subst, inl, inr, add-one, arith}
-use Rattle.std.proofs.lemmas.Bool.{cases_eq, and_parts, and_from, and_left, and_right, or_cases, or_left, or_right, both_ways, cond-false, cond-true, cases_lt, cases_Bool}
+use Rattle.std.proofs.lemmas.Bool.{cases_eq, and_parts, or_cases, or_left, or_right, both_ways, cond-false, cond-true, cases_Bool}
 use Rattle.granules.specs.Below.{each_below, some_below, sum_below, count_below}
 
 pub each_at : (n : ℕ) (f : ℕ → Bool) → each_below n f ≡ true → (k : ℕ) → k < n → f k ≡ true
@@ -11,22 +11,6 @@ each_at (suc n) f t k h =
       | inl e ↦ subst (λ (m : ℕ). f m ≡ true) (sym e) both.1
       | inr e ↦ each_at n f both.0 k (omega arith)
     ]
-
-pub each_from : (n : ℕ) (f : ℕ → Bool) → ((k : ℕ) → k < n → f k ≡ true) → each_below n f ≡ true
-each_from zero f h = refl
-each_from (suc n) f h = and_from (each_below n f) (f n) (each_from n f (λ k l. h k (omega arith))) (h n (omega arith))
-
-pub each_fails : (n : ℕ) (f : ℕ → Bool) (k : ℕ) → k < n → f k ≡ false → each_below n f ≡ false
-each_fails zero f k h e = absurd (omega arith)
-each_fails (suc n) f k h e =
-    elim (cases_eq k n) [
-      | inl s ↦ and_right (each_below n f) (f n) (subst (λ (m : ℕ). f m ≡ false) s e)
-      | inr s ↦ and_left (each_below n f) (f n) (each_fails n f k (omega arith) e)
-    ]
-
--- a loop's step
-pub each_more : (i : ℕ) (f : ℕ → Bool) → each_below i f ≡ true → f i ≡ true → each_below (i + 1) f ≡ true
-each_more i f a b = rw add-one (and_from (each_below i f) (f i) a b)
 
 pub some_at : (n : ℕ) (f : ℕ → Bool) → some_below n f ≡ true → (k : ℕ) × (k < n) × (f k ≡ true)
 some_at zero f t = absurd (both_ways false refl t)
@@ -47,10 +31,7 @@ some_from (suc n) f k h e =
 pub some_more : (i : ℕ) (f : ℕ → Bool) → some_below (i + 1) f ≡ (some_below i f || f i)
 some_more i f = rw add-one
 
-pub sum_more : (i : ℕ) (f : ℕ → Bool) (figure : ℕ → ℕ) → sum_below (i + 1) f figure ≡ sum_below i f figure + cond (f i) (figure i) 0
-sum_more i f figure = rw add-one
-
-never : (b : Bool) → (b ≡ true → ⊥) → b ≡ false
+pub never : (b : Bool) → (b ≡ true → ⊥) → b ≡ false
 never true h = absurd (h refl)
 never false h = refl
 
@@ -61,26 +42,6 @@ sum_none (suc n) f figure h =
     let rest = sum_none n f figure (λ k l. h k (omega arith)) in
     let last = cond-false (f n) (figure n) 0 (never (f n) (h n (omega arith))) in
     omega arith
-
--- nor does it count how far one looks past the last at which it passes
-sum_past : (m n : ℕ) (f : ℕ → Bool) (figure : ℕ → ℕ) → m ≤ n → ((k : ℕ) → f k ≡ true → k < m) → sum_below n f figure ≡ sum_below m f figure
-sum_past m zero f figure h p = let e : m ≡ 0 = omega arith in ap (λ (x : ℕ). sum_below x f figure) (sym e)
-sum_past m (suc n) f figure h p =
-    elim (cases_eq m (suc n)) [
-      | inl e ↦ ap (λ (x : ℕ). sum_below x f figure) (sym e)
-      | inr e ↦
-          let rest = sum_past m n f figure (omega arith) p in
-          let last = cond-false (f n) (figure n) 0 (never (f n) (λ t. omega (arith, p n t))) in
-          omega arith
-    ]
-
-pub sum_same :
-    (m n : ℕ) (f : ℕ → Bool) (figure : ℕ → ℕ) → ((k : ℕ) → f k ≡ true → (k < m) × (k < n)) → sum_below m f figure ≡ sum_below n f figure
-sum_same m n f figure p =
-    elim (cases_lt m n) [
-      | inl l ↦ sym (sum_past m n f figure (omega arith) (λ k t. (p k t).0))
-      | inr l ↦ sum_past n m f figure l (λ k t. (p k t).1)
-    ]
 
 -- one of which the test passes is counted
 pub sum_has : (n : ℕ) (f : ℕ → Bool) (figure : ℕ → ℕ) (k : ℕ) → k < n → f k ≡ true → figure k ≤ sum_below n f figure

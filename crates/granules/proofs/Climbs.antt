@@ -1,10 +1,9 @@
 -- Paths in a rooted table: one granule at a time, and what lies beneath what.
-use Rattle.std.proofs.Common.{◌≡◌, ℕ, zero, suc, ◌+◌, ◌<◌, ◌≤◌, Bool, true, false, not, ◌&&◌, ◌||◌, eqb, ltb, leb, List, [], ◌∷◌, ◌++◌, length, Some, None, sym, refl, ap, ◌∙◌, subst, inl, inr, arith}
+use Rattle.std.proofs.Common.{◌≡◌, ℕ, zero, suc, ◌+◌, ◌<◌, ◌≤◌, Bool, true, false, not, ◌&&◌, ◌||◌, eqb, ltb, leb, List, [], ◌∷◌, ◌++◌, length, sym, refl, ap, ◌∙◌, subst, inl, inr, arith}
 use Rattle.std.proofs.lemmas.List.{length_push, get_or_past}
-use Rattle.std.proofs.lemmas.Bool.{cases_eq, cases_lt, cases_Bool, and_parts, and_from, or_cases, or_left, or_right, both_ways, ne_eqb, eq-eqb, and_left, le-ltb, eqb-true, ltb-true, leb-true, lt-ltb, not-true, not_from_false}
-use Rattle.granules.specs.Paths.{parent, path, path_by, among, beneath, settled, has_child, is_record, record_beneath, records_beneath}
+use Rattle.std.proofs.lemmas.Bool.{cases_lt, cases_Bool, and_parts, and_from, or_cases, or_left, or_right, both_ways, ne_eqb, eq-eqb, and_left, le-ltb, eqb-true, ltb-true, leb-true, lt-ltb, not-true, not_from_false}
+use Rattle.granules.specs.Paths.{parent, path, path_by, among, beneath, has_child, is_record, record_beneath, records_beneath}
 use Rattle.granules.specs.Tables.{rooted, right_for, shallow}
-use Rattle.granules.specs.Trees.{span}
 use Rattle.granules.proofs.Below.{each_at, some_at, some_from, sum_has}
 
 -- A climb falls: each parent is smaller, beyond the table too.
@@ -69,13 +68,25 @@ climb ps f P root step g = go (suc g) g (omega arith)
 pub path_more : (ps : List ℕ) → Falls ps → (g : ℕ) → 0 < g → length (path ps g) ≡ length (path ps (parent ps g)) + 1
 path_more ps f g h = ap length (path_step ps f g h) ∙ length_push (path ps (parent ps g)) g
 
-pub path_long : (ps : List ℕ) → Falls ps → (g : ℕ) → length (path ps g) ≤ g + 1
-path_long ps f =
+-- how deep the granules of a rooted table lie
+pub rooted_falls : (ps : List ℕ) (g : ℕ) → rooted ps ≡ true → 0 < g → parent ps g < g
+rooted_falls ps g t h = falls ps t g h
+
+pub depth_root : (ps : List ℕ) (g : ℕ) → g ≡ 0 → length (path ps g) ≡ 1
+depth_root ps g e = ap (λ (x : ℕ). length (path ps x)) e ∙ ap length (path_root ps)
+
+pub depth_more : (ps : List ℕ) (g : ℕ) → rooted ps ≡ true → 0 < g → length (path ps g) ≡ length (path ps (parent ps g)) + 1
+depth_more ps g t h = path_more ps (falls ps t) g h
+
+pub depth_long : (ps : List ℕ) (g : ℕ) → rooted ps ≡ true → length (path ps g) ≤ g + 1
+depth_long ps g t =
+    let f = falls ps t in
     climb ps f (λ g. length (path ps g) ≤ g + 1) (rw path_root (omega arith))
     (λ g h ih.
     let l = f g h in
     let e = path_more ps f g h in
     omega arith)
+    g
 
 -- in a shallow table a path that goes on has room for one more
 pub path_room : (ps : List ℕ) → Falls ps → shallow ps ≡ true → (g : ℕ) → 0 < g → length (path ps (parent ps g)) < 8
@@ -107,10 +118,10 @@ beneath_self ps f (suc g) =
     ∙ or_right (beneath ps (suc g) (parent ps (suc g))) (eqb (suc g) (suc g)) (eq-eqb (suc g) (suc g) refl)
 
 -- the ways of a climb that looks for a granule: there it stops, at the root too, and else it goes on from the parent
-beneath_here : (ps : List ℕ) → Falls ps → (above g : ℕ) → g ≡ above → beneath ps above g ≡ true
+pub beneath_here : (ps : List ℕ) → Falls ps → (above g : ℕ) → g ≡ above → beneath ps above g ≡ true
 beneath_here ps f above g e = subst (λ (x : ℕ). beneath ps x g ≡ true) e (beneath_self ps f g)
 
-beneath_end : (ps : List ℕ) (above g : ℕ) → (g ≡ above → ⊥) → g ≡ 0 → beneath ps above g ≡ false
+pub beneath_end : (ps : List ℕ) (above g : ℕ) → (g ≡ above → ⊥) → g ≡ 0 → beneath ps above g ≡ false
 beneath_end ps above g n e =
     ap (beneath ps above) e ∙ beneath_root ps above ∙ ne_eqb above 0 (λ (z : above ≡ 0). n (e ∙ sym z))
 
@@ -124,50 +135,6 @@ beneath_up ps f above g n h =
     or_false : (b : Bool) → (b || false) ≡ b
     or_false true = refl
     or_false false = refl
-
-pub settled_found : (ps : List ℕ) → Falls ps → (above g : ℕ) (b : Bool) → settled above g ≡ Some b → b ≡ beneath ps above g
-settled_found ps f above g b e =
-    elim (cases_eq g above) [
-      | inl here ↦
-          let t = eq-eqb g above here in
-          let s : Some b ≡ Some true = sym e ∙ rw (t, settled) in
-          let v : b ≡ true = cc in
-          v ∙ sym (beneath_here ps f above g here)
-      | inr other ↦
-          let t = ne_eqb g above other in
-          elim (cases_eq g 0) [
-            | inl root ↦
-                let z = eq-eqb g 0 root in
-                let s : Some b ≡ Some false = sym e ∙ rw (t, z, settled) in
-                let v : b ≡ false = cc in
-                v ∙ sym (beneath_end ps above g other root)
-            | inr up ↦
-                let z = ne_eqb g 0 up in
-                let s : Some b ≡ None = sym e ∙ rw (t, z, settled) in
-                let v : b ≡ beneath ps above g = cc in
-                v
-          ]
-    ]
-
-pub settled_open : (above g : ℕ) → settled above g ≡ None → (0 < g) × (g ≡ above → ⊥)
-settled_open above g e =
-    let none : (b : Bool) → Some b ≡ None → ⊥ = λ b s. let z : ◌≡◌ {A = ℕ} 0 1 = cc in omega arith in (
-      elim (cases_eq g 0) [
-        | inl root ↦
-            elim (cases_eq g above) [
-              | inl here ↦ absurd (none true (sym (settled_here here) ∙ e))
-              | inr other ↦ absurd (none false (sym (settled_root other root) ∙ e))
-            ]
-        | inr up ↦ omega arith
-      ],
-      λ here. none true (sym (settled_here here) ∙ e),
-    )
-  where
-    settled_here : g ≡ above → settled above g ≡ Some true
-    settled_here here = let t = eq-eqb g above here in rw (t, settled)
-
-    settled_root : (g ≡ above → ⊥) → g ≡ 0 → settled above g ≡ Some false
-    settled_root other root = let t = ne_eqb g above other in let z = eq-eqb g 0 root in rw (t, z, settled)
 
 -- beneath a granule lie no smaller ones
 pub beneath_le : (ps : List ℕ) → Falls ps → (g r : ℕ) → beneath ps g r ≡ true → g ≤ r
@@ -235,12 +202,6 @@ pub other_span : (ps : List ℕ) → Falls ps → (g k : ℕ) → record_beneath
 other_span ps f g k b =
     let p = and_parts (is_record ps k) (beneath ps g k) b in
     (beneath_le ps f g k p.1, (record_parts ps k p.0).0)
-
-pub span_record : (ps : List ℕ) (g : ℕ) → is_record ps g ≡ true → span ps g ≡ (g, g + 1)
-span_record ps g e = rw (e, span)
-
-pub span_other : (ps : List ℕ) (g : ℕ) → is_record ps g ≡ false → span ps g ≡ (g, length ps)
-span_other ps g e = rw (e, span)
 
 -- Beneath each granule lies a record: itself, or one beneath a child.
 pub some_record : (ps : List ℕ) → Falls ps → (g : ℕ) → g < length ps → (r : ℕ) × (r < length ps) × (record_beneath ps g r ≡ true)

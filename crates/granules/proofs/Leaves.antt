@@ -1,7 +1,8 @@
 -- The flags of granules that are nobody's parent, marked off one child after the other.
-use Rattle.std.proofs.Common.{◌≡◌, ℕ, ◌+◌, ◌<◌, ◌≤◌, Bool, true, false, not, ◌&&◌, ◌||◌, eqb, ltb, List, length, get_or, set, sym, refl, ap, ◌∙◌, inl, inr, arith}
-use Rattle.std.proofs.lemmas.List.{get_or-set_same, get_or-set_other}
-use Rattle.std.proofs.lemmas.Bool.{cases_eq, and_from, and_left, and_right, or_right, ne_eqb, eq-eqb, lt-ltb, le-ltb}
+use Rattle.std.proofs.Common.{◌≡◌, ℕ, zero, suc, ◌+◌, ◌<◌, Bool, true, false, not, ◌&&◌, ◌||◌, eqb, ltb, List, [], ◌∷◌, length, get_or, map, drop, replicate, set, sym, refl, ap, ◌∙◌, inl, inr, add-one, arith}
+use Rattle.granules.specs.declared.tree.Node.{Node}
+use Rattle.std.proofs.lemmas.List.{get_or_default, get_or-set_same, get_or-set_other}
+use Rattle.std.proofs.lemmas.Bool.{cases_eq, and_from, and_right, or_right, ne_eqb, eq-eqb, lt-ltb}
 use Rattle.granules.specs.Below.{some_below}
 use Rattle.granules.specs.Paths.{parent, has_child, is_record}
 use Rattle.granules.proofs.Below.{some_more}
@@ -22,10 +23,6 @@ or_false false = refl
 skip : (ps : List ℕ) (i k : ℕ) → child_of ps k i ≡ false → some_below (i + 1) (child_of ps k) ≡ some_below i (child_of ps k)
 skip ps i k e =
     some_more i (child_of ps k) ∙ ap (λ (b : Bool). some_below i (child_of ps k) || b) e ∙ or_false (some_below i (child_of ps k))
-
-pub marked_root : (ps : List ℕ) (free : List Bool) (i : ℕ) → i ≤ 0 → Marked ps free i → Marked ps free (i + 1)
-marked_root ps free i z m k h =
-    m k h ∙ ap not (sym (skip ps i k (and_left (ltb 0 i) (eqb (parent ps i) k) (le-ltb 0 i z))))
 
 pub marked_more :
     (ps : List ℕ) (free : List Bool) (i : ℕ) → 0 < i → length free ≡ 256 → Marked ps free i → Marked ps (set free (parent ps i) false) (i + 1)
@@ -49,3 +46,14 @@ marked_more ps free i l full m k h =
 pub record_free : (ps : List ℕ) (g : ℕ) → g < length ps → not (some_below (length ps) (child_of ps g)) ≡ is_record ps g
 unfolding is_record
 record_free ps g l = ap (λ (b : Bool). b && not (has_child ps g)) (sym (lt-ltb g (length ps) l))
+
+-- before any is marked off, all of a list of leaves are left
+pub all_left : (ps : List ℕ) (n : ℕ) (node : Node) → node.leaf ≡ true → (k : ℕ) → k < n → get_or (map (λ m. m.leaf) (replicate n node)) k false ≡ true
+all_left ps zero node e k h = absurd (omega arith)
+all_left ps (suc n) node e zero h = e
+all_left ps (suc n) node e (suc k) h = all_left ps n node e k (omega arith)
+
+-- the nth of the entries after the root's
+pub nth_child : (ps : List ℕ) (n p : ℕ) → n < length (drop 1 ps) → p ≡ get_or (drop 1 ps) n p → (n + 1 < length ps) × (p ≡ parent ps (n + 1))
+nth_child [] n p l e = absurd (omega arith)
+nth_child (x ∷ xs) n p l e = (omega arith, e ∙ get_or_default xs n p 0 l ∙ rw add-one)

@@ -1,6 +1,7 @@
 -- The tree of granules, by its parents table: a list whose entry g is the parent of granule g.
 -- Granule 0, the database, is the root, and its own parent. Every other parent has a smaller number than its child.
-use Rattle.std.specs.Prelude.{ℕ, zero, suc, Bool, true, false, not, ◌&&◌, ◌||◌, List, [], ◌∷◌, ◌++◌, length, Some, None, Option, ◌==◌, nat_lt, slice_index}
+use Rattle.std.specs.Prelude.{ℕ, zero, suc, Bool, false, not, ◌&&◌, ◌||◌, List, [], ◌∷◌, ◌++◌, length, ◌==◌, nat_lt, slice_index}
+use Rattle.std.specs.List.{filter, range_with_len}
 use Rattle.granules.specs.Below.{some_below, count_below}
 
 abbrev pub parent : List ℕ → ℕ → ℕ
@@ -25,10 +26,6 @@ among g (x ∷ xs) = g == x || among g xs
 abbrev pub beneath : List ℕ → ℕ → ℕ → Bool
 beneath parents above g = among above (path parents g)
 
--- What a climb from g that looks for a granule knows at once: it is found, or not found at the root, or not settled yet.
-abbrev pub settled : ℕ → ℕ → Option Bool
-settled above g = elim (g == above) [ true ↦ Some true | false ↦ elim (g == 0) [ true ↦ Some false | false ↦ None ] ]
-
 -- Whether g is the parent of some granule. That the root is its own parent does not count.
 abbrev pub has_child : List ℕ → ℕ → Bool
 has_child parents g = some_below (length parents) (λ h. nat_lt 0 h && parent parents h == g)
@@ -44,3 +41,7 @@ record_beneath parents g r = is_record parents r && beneath parents g r
 -- How many there are.
 abbrev pub records_beneath : List ℕ → ℕ → ℕ
 records_beneath parents g = count_below (length parents) (record_beneath parents g)
+
+-- Their numbers, in ascending order.
+abbrev pub records : List ℕ → ℕ → List ℕ
+records parents g = filter (record_beneath parents g) (range_with_len 0 (length parents))

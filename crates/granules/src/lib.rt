@@ -4,7 +4,7 @@
 // is the whole; each other granule lies in one parent. Words lie at the records, the granules that are nobody's parent.
 //
 // Files: `unfit` (what can be wrong with a parents table), `tree` (a table that has passed; `makes` is the check, `asks`
-// the questions to it), `path` (the granules from the root down to one).
+// the questions to it, `records` the records beneath a granule), `path` (the granules from the root down to one).
 #![tactic(auto)]
 
 pub mod path;
@@ -13,4 +13,5 @@ pub mod unfit;
 
 pub use path::Path;
 pub use tree::Tree;
+pub use tree::records::Records;
 pub use unfit::Unfit;

@@ -3,6 +3,7 @@ ghost use Rattle.std.specs.Prelude.{◌≡◌, ◌≤◌, length};
 
 pub mod steps;
 
+// The array has a count beside it, since a path is copied freely and takes no memory from a heap.
 #[derive(Clone, Copy)]
 pub struct Path {
     len: usize,

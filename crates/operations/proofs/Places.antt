@@ -5,9 +5,11 @@ use Rattle.std.proofs.lemmas.Bool.{cases_lt, cases_Bool, cond-true, cond-false, 
 use Rattle.shelf.specs.Words.{at}
 use Rattle.granules.specs.Below.{sum_below}
 use Rattle.granules.specs.Paths.{record_beneath}
+use Rattle.operations.specs.declared.operation.Action.{Action}
+use Rattle.operations.specs.declared.operation.Action.TheVariants.{Read, Mean}
 use Rattle.operations.specs.declared.operation.Operation.{Operation}
 use Rattle.operations.specs.Actions.{changed}
-use Rattle.operations.specs.Words.{each_from, left_at, after}
+use Rattle.operations.specs.Words.{sum, largest_sum, each_from, left_at, after}
 
 -- what a place gives, or 0
 pub word_at : (ws : List ℕ) (place : ℕ) → unwrap_or (at ws place) 0 ≡ get_or ws place 0
@@ -17,17 +19,15 @@ word_at ws place =
       | inr l ↦ let t = le-ltb place (length ws) l in let e = get_or_past ws place 0 l in rw (t, at, e)
     ]
 
--- a sum of words is at most as many times the largest word
+-- a sum of figures is at most as many times the largest
+sum_le : (n : ℕ) (f : ℕ → Bool) (figure : ℕ → ℕ) (m : ℕ) → ((k : ℕ) → figure k ≤ m) → sum_below n f figure ≤ n * m
+sum_le zero f figure m h = omega arith
+sum_le (suc n) f figure m h = grind (arith, sum_le n f figure m h, h n)
+
 pub sum_bound :
-    (n : ℕ) (f : ℕ → Bool) (figure : ℕ → ℕ) → ((k : ℕ) → figure k ≤ 4294967295) → sum_below n f figure ≤ n * 4294967295
-sum_bound zero f figure h = omega arith
-sum_bound (suc n) f figure h =
-    let rest = sum_bound n f figure h in
-    let one = h n in
-    elim (cases_Bool (f n)) [
-      | inl e ↦ let last = cond-true (f n) (figure n) 0 e in omega arith
-      | inr e ↦ let last = cond-false (f n) (figure n) 0 e in omega arith
-    ]
+    (ps ws : List ℕ) (g : ℕ) → length ps ≤ 256 → ((k : ℕ) → get_or ws k 0 ≤ 4294967295) → sum ps ws g ≤ largest_sum
+sum_bound ps ws g few fit =
+    omega (arith, sum_le (length ps) (record_beneath ps g) (λ r. get_or ws r 0) 4294967295 fit)
 
 pub length_each : (i : ℕ) (f : ℕ → ℕ → ℕ) (ws : List ℕ) → length (each_from i f ws) ≡ length ws
 length_each i f [] = refl
@@ -60,10 +60,16 @@ pub left_new : (ps : List ℕ) (o : Operation) (k w : ℕ) → record_beneath ps
 left_new ps o k w e = cond-true (record_beneath ps o.granule k) (changed o.action w) w e
 
 -- an action that leaves each word leaves the shelf
-pub after_still : (ps : List ℕ) (o : Operation) (ws : List ℕ) → ((w : ℕ) → changed o.action w ≡ w) → after ps o ws ≡ ws
+after_still : (ps : List ℕ) (o : Operation) (ws : List ℕ) → ((w : ℕ) → changed o.action w ≡ w) → after ps o ws ≡ ws
 unfolding after
 after_still ps o ws h =
     each_still 0 (left_at ps o) ws
     (λ k w.
     elim (cases_Bool (record_beneath ps o.granule k))
     [ inl t ↦ left_new ps o k w t ∙ h w | inr t ↦ left_still ps o k w t ])
+
+pub after_read : (ps : List ℕ) (o : Operation) (ws : List ℕ) → o.action ≡ Read → after ps o ws ≡ ws
+after_read ps o ws e = after_still ps o ws (λ w. ap (λ (a : Action). changed a w) e)
+
+pub after_mean : (ps : List ℕ) (o : Operation) (ws : List ℕ) → o.action ≡ Mean → after ps o ws ≡ ws
+after_mean ps o ws e = after_still ps o ws (λ w. ap (λ (a : Action). changed a w) e)

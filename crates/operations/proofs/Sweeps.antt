@@ -1,9 +1,16 @@
 -- A change of all words that a loop carries from place to place.
-use Rattle.std.proofs.Common.{◌≡◌, ℕ, ◌+◌, ◌<◌, ◌≤◌, cond, ltb, List, length, get_or, set, sym, ap, ◌∙◌, inl, inr, arith}
-use Rattle.std.proofs.lemmas.List.{ext_get_or, length-set, get_or-set_same, get_or-set_other}
-use Rattle.std.proofs.lemmas.Bool.{cases_eq, cases_lt, cond-true, cond-false, lt-ltb, le-ltb}
-use Rattle.operations.specs.Words.{each_from}
-use Rattle.operations.proofs.Places.{each_same, each_still, length_each, get_or_each}
+use Rattle.std.proofs.Common.{◌≡◌, ℕ, zero, suc, ◌+◌, ◌<◌, ◌≤◌, cond, ltb, List, [], ◌∷◌, ◌++◌, length, get_or, set, sym, ap, ◌∙◌, inl, inr, arith}
+use Rattle.std.specs.List.{fold, filter, range_with_len}
+use Rattle.std.proofs.lemmas.List.{append-nil, ext_get_or, length-set, get_or-set_same, get_or-set_other}
+use Rattle.std.proofs.lemmas.List.Sums.{fold_push}
+use Rattle.std.proofs.lemmas.Bool.{and_left, cases_eq, cases_lt, cases_Bool, cond-true, cond-false, lt-ltb, le-ltb}
+use Rattle.granules.specs.Paths.{is_record, beneath, record_beneath, records}
+use Rattle.granules.proofs.Climbs.{record_outside}
+use Rattle.granules.proofs.Counts.{filter_more}
+use Rattle.operations.specs.declared.operation.Operation.{Operation}
+use Rattle.operations.specs.Actions.{changed}
+use Rattle.operations.specs.Words.{each_from, left_at, after}
+use Rattle.operations.proofs.Places.{each_same, each_still, length_each, get_or_each, left_still, left_new}
 
 -- what is left at place k when the change has come as far as place r
 abbrev pub swept : ℕ → (ℕ → ℕ → ℕ) → ℕ → ℕ → ℕ
@@ -80,3 +87,42 @@ sweep_more r f ws =
           ∙ swept_else r f k (get_or ws k 0) s
           ∙ sym (get_or_each (swept (r + 1) f) ws k l)
     ])
+
+-- the words once an operation has changed the one at a place, and those at these places, one after the other
+abbrev pub write : Operation → List ℕ → ℕ → List ℕ
+write o ws r = set ws r (changed o.action (get_or ws r 0))
+
+abbrev pub rewritten : Operation → List ℕ → List ℕ → List ℕ
+rewritten o ws rs = fold (write o) ws rs
+
+-- as far as number n, they are what the operation leaves there
+rewritten_below :
+    (ps : List ℕ) (o : Operation) (ws : List ℕ) (n : ℕ)
+    → rewritten o ws (filter (record_beneath ps o.granule) (range_with_len 0 n)) ≡ each_from 0 (swept n (left_at ps o)) ws
+rewritten_below ps o ws zero = sweep_from 0 (left_at ps o) ws (λ k w l. absurd (omega arith))
+rewritten_below ps o ws (suc n) =
+    let test = record_beneath ps o.granule in
+    let ih = rewritten_below ps o ws n in
+    let next : n + 1 ≡ suc n = omega arith in
+    elim (cases_Bool (test n)) [
+      | inl t ↦
+          ap (rewritten o ws) (filter_more n test ∙ ap (λ (xs : List ℕ). filter test (range_with_len 0 n) ++ xs) (cond-true (test n) (n ∷ []) [] t))
+          ∙ fold_push (write o) ws (filter test (range_with_len 0 n)) n
+          ∙ ap (λ (xs : List ℕ). write o xs n) ih
+          ∙ ap (set (each_from 0 (swept n (left_at ps o)) ws) n)
+          (sym (left_new ps o n (get_or (each_from 0 (swept n (left_at ps o)) ws) n 0) t))
+          ∙ sweep_more n (left_at ps o) ws
+          ∙ ap (λ (m : ℕ). each_from 0 (swept m (left_at ps o)) ws) next
+      | inr t ↦
+          ap (rewritten o ws) (filter_more n test ∙ ap (λ (xs : List ℕ). filter test (range_with_len 0 n) ++ xs) (cond-false (test n) (n ∷ []) [] t) ∙ append-nil (filter test (range_with_len 0 n)))
+          ∙ ih
+          ∙ sweep_skip n (left_at ps o) ws (λ w. left_still ps o n w t)
+          ∙ ap (λ (m : ℕ). each_from 0 (swept m (left_at ps o)) ws) next
+    ]
+
+pub rewritten_all : (ps : List ℕ) (o : Operation) (ws : List ℕ) → rewritten o ws (records ps o.granule) ≡ after ps o ws
+unfolding after
+rewritten_all ps o ws =
+    rewritten_below ps o ws (length ps)
+    ∙ sweep_all (length ps) (left_at ps o) ws
+    (λ k w l. left_still ps o k w (and_left (is_record ps k) (beneath ps o.granule k) (record_outside ps k l)))

@@ -1,5 +1,5 @@
 -- What an operation answers and what it leaves, over the list of all words of the shelf.
-use Rattle.std.specs.Prelude.{ℕ, suc, cond, List, [], ◌∷◌, length, slice_index}
+use Rattle.std.specs.Prelude.{ℕ, suc, ◌*◌, cond, List, [], ◌∷◌, ◌++◌, length, slice_index, codes, decimal}
 use Rattle.granules.specs.Below.{sum_below}
 use Rattle.granules.specs.Paths.{record_beneath, records_beneath}
 use Rattle.operations.specs.declared.operation.Action.{Action}
@@ -13,6 +13,10 @@ use Rattle.operations.specs.Actions.{changed, rounded}
 abbrev pub sum : List ℕ → List ℕ → ℕ → ℕ
 sum parents words g = sum_below (length parents) (record_beneath parents g) (λ r. slice_index words r)
 
+-- No sum of words is larger: there are at most 256, of 32 bits each.
+abbrev pub largest_sum : ℕ
+largest_sum = 256 * 4294967295
+
 -- What an action answers, where it meets records with this sum, so many of them.
 abbrev pub told : Action → ℕ → ℕ → Outcome
 told Read s count = Figures s count
@@ -23,6 +27,12 @@ told (Add w) s count = Done
 -- What an operation answers.
 abbrev pub answer : List ℕ → Operation → List ℕ → Outcome
 answer parents o words = told o.action (sum parents words o.granule) (records_beneath parents o.granule)
+
+-- An answer in writing.
+abbrev pub written : Outcome → List ℕ
+written (Figures s count) = codes "read " ++ (decimal s ++ (codes " " ++ decimal count))
+written (Average m) = codes "mean " ++ decimal m
+written Done = codes "done"
 
 -- The words changed place by place, from place i on.
 abbrev pub each_from : ℕ → (ℕ → ℕ → ℕ) → List ℕ → List ℕ

@@ -21,6 +21,7 @@ pub fn run_alone<S: Shelf>(
 ) -> Result<Vec<Outcome>, AllocError>
     ensures ran { Ran (table tree.now) (S.Shelf.words shelf.old) operations.now (option_map vec_items (result_ok result)) (S.Shelf.words shelf.new) }
 {
+    // No `collect`: where memory runs out it would not say that nothing was done.
     let mut answers = Vec::with_capacity(heap, operations.len())?;
     for operation in operations {
         let answer = carry_out(tree, shelf, *operation);

@@ -1,19 +1,18 @@
 // One operation carried out over a shelf. A place that the shelf does not have reads as 0 and takes no word.
-ghost use Rattle.std.specs.Prelude.{◌≡◌, ◌*◌, ◌≤◌};
-ghost use Rattle.std.specs.Option.{unwrap_or};
-ghost use Rattle.shelf.specs.Words.{at};
+ghost use Rattle.std.specs.Prelude.{◌≡◌, ◌≤◌, slice_index};
 ghost use Rattle.granules.specs.Paths.{records_beneath};
 ghost use Rattle.granules.specs.Trees.{table};
 ghost use Rattle.operations.specs.Actions.{rounded};
-ghost use Rattle.operations.specs.Words.{sum, answer, after};
+ghost use Rattle.operations.specs.Words.{sum, largest_sum, answer, after};
 
 use crate::operation::{Action, Operation, Outcome};
 use granules::Tree;
 use shelf::Shelf;
 
 // The word at a place.
+#[tactic(auto, using(crate::proofs::Places::word_at))]
 fn word<S: Shelf>(shelf: &S, place: usize) -> u32
-    ensures value { result ≡ unwrap_or (at (S.Shelf.words shelf.now) place) 0 }
+    ensures value { result ≡ slice_index (S.Shelf.words shelf.now) place }
 {
     shelf.get(place).unwrap_or(0)
 }
@@ -21,23 +20,18 @@ fn word<S: Shelf>(shelf: &S, place: usize) -> u32
 // The sum of the words of the records beneath a granule.
 fn total<S: Shelf>(tree: &Tree, shelf: &S, granule: usize) -> u64
     ensures value { result ≡ sum (table tree.now) (S.Shelf.words shelf.now) granule }
-    ensures bound { result ≤ 256 * 4294967295 }
+    ensures bound { result ≤ largest_sum }
 {
-    let (first, end) = tree.span(granule);
-    let mut sum = 0;
-    for r in first..end {
-        if tree.is_record_beneath(granule, r) {
-            sum += u64::from(word(shelf, r));
-        }
-    }
-    sum
+    tree.records(granule)
+        .map(|r| u64::from(word(shelf, r)))
+        .sum()
 }
 
 // What a read answers: the sum of the words of the records beneath a granule, and how many records there are.
 pub fn figures<S: Shelf>(tree: &Tree, shelf: &S, granule: usize) -> (u64, u32)
     ensures sum { result.0 ≡ sum (table tree.now) (S.Shelf.words shelf.now) granule }
     ensures count { result.1 ≡ records_beneath (table tree.now) granule }
-    ensures bound { result.0 ≤ 256 * 4294967295 }
+    ensures bound { result.0 ≤ largest_sum }
 {
     (
         total(tree, shelf, granule),
@@ -47,7 +41,7 @@ pub fn figures<S: Shelf>(tree: &Tree, shelf: &S, granule: usize) -> (u64, u32)
 
 // A sum over a count, to the nearest whole number, halves up; over no records it is 0.
 fn mean(sum: u64, count: u32) -> u64
-    requires { sum ≤ 256 * 4294967295 }
+    requires { sum ≤ largest_sum }
     ensures value { result ≡ rounded sum count }
 {
     if count == 0 {
@@ -61,16 +55,14 @@ fn change<S: Shelf>(tree: &Tree, shelf: &mut S, operation: Operation)
     ensures after { S.Shelf.words shelf.new ≡ after (table tree.now) operation (S.Shelf.words shelf.old) }
 {
     let granule = operation.granule as usize;
-    let (first, end) = tree.span(granule);
-    for r in first..end {
-        if tree.is_record_beneath(granule, r) {
-            let new = operation.action.changed(word(shelf, r));
-            let _ = shelf.put(r, new);
-        }
+    for r in tree.records(granule) {
+        let new = operation.action.changed(word(shelf, r));
+        let _ = shelf.put(r, new);
     }
 }
 
 // Carries an operation out and answers it. Beneath a granule that the tree does not have there is no record.
+#[tactic(auto, using(crate::proofs::Places::after_read, crate::proofs::Places::after_mean))]
 pub fn carry_out<S: Shelf>(tree: &Tree, shelf: &mut S, operation: Operation) -> Outcome
     ensures value { result ≡ answer (table tree.now) operation (S.Shelf.words shelf.old) }
     ensures after { S.Shelf.words shelf.new ≡ after (table tree.now) operation (S.Shelf.words shelf.old) }

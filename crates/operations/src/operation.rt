@@ -1,8 +1,11 @@
 // The operations that a job is made of, and what they answer.
-ghost use Rattle.std.specs.Prelude.{◌≡◌};
+ghost use Rattle.std.specs.Prelude.{◌≡◌, Some};
 ghost use Rattle.operations.specs.Actions.{kind, changed};
+ghost use Rattle.operations.specs.Words.{written};
 
 use modes::kind::Kind;
+use std::fmt;
+use std::fmt::Write;
 
 // What is done with each record beneath a granule.
 #[derive(Clone, Copy, PartialEq, Eq, Debug)]
@@ -53,6 +56,19 @@ impl Action {
             Action::Read | Action::Mean => word,
             Action::Set(new) => new,
             Action::Add(more) => word.wrapping_add(more),
+        }
+    }
+}
+
+// An answer in writing: neither its operation's number nor an end of line.
+impl fmt::Display for Outcome {
+    ghost output = { λ o. Some (written o) };
+
+    fn fmt<W: Write>(&self, f: &mut fmt::Formatter<W>) -> fmt::Result {
+        match self {
+            Outcome::Figures(sum, count) => write!(f, "read {sum} {count}"),
+            Outcome::Average(mean) => write!(f, "mean {mean}"),
+            Outcome::Done => write!(f, "done"),
         }
     }
 }

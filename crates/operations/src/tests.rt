@@ -78,6 +78,17 @@ fn halves_go_up(rt: HostRuntime) -> Result<(), Fail> {
 }
 
 #[test]
+fn answers_in_writing(rt: HostRuntime) -> Result<(), Fail> {
+    let figures = Outcome::Figures(16, 3).to_string(rt.alloc())?;
+    assert_eq!(rt; figures.as_str(), "read 16 3");
+    let average = Outcome::Average(8).to_string(rt.alloc())?;
+    assert_eq!(rt; average.as_str(), "mean 8");
+    let done = Outcome::Done.to_string(rt.alloc())?;
+    assert_eq!(rt; done.as_str(), "done");
+    Ok(())
+}
+
+#[test]
 fn tables_and_their_faults(rt: HostRuntime) {
     assert!(rt; Tree::new(&[0, 0, 1, 2, 3, 4, 5, 6], 8).is_ok());
     assert_eq!(rt; fault(Tree::new(&[0, 0, 1, 2, 3, 4, 5, 6, 7], 9)), 12);

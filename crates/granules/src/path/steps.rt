@@ -1,5 +1,5 @@
 // How a path grows, and how it is read.
-ghost use Rattle.std.specs.Prelude.{◌≡◌, ◌<◌, [], ◌∷◌, ◌++◌, length, nat_lt, slice_index};
+ghost use Rattle.std.specs.Prelude.{◌≡◌, ◌<◌, [], ◌∷◌, ◌++◌, length, slice_index};
 ghost use Rattle.granules.specs.Trees.{steps};
 
 use super::Path;
@@ -28,26 +28,17 @@ impl Path {
         }
     }
 
+    // The granules, from the root down.
+    pub fn as_slice(&self) -> &[u8]
+        ensures value { result.now ≡ steps self.now }
+    {
+        &self.granules[..self.len]
+    }
+
     pub fn len(&self) -> usize
         ensures value { result ≡ length (steps self.now) }
     {
         self.len
-    }
-
-    // Whether the path goes as far as a place.
-    fn has(&self, place: usize) -> bool
-        ensures value { result ≡ nat_lt place (length (steps self.now)) }
-    {
-        place < self.len
-    }
-
-    // The granule kept at a place that the path has.
-    fn kept(&self, place: usize) -> usize
-        requires { place < self.now.len }
-        ensures value { result ≡ slice_index self.now.granules place }
-        ensures bound { result < 256 }
-    {
-        self.granules[place] as usize
     }
 
     // The granule at a place, counted from the root; past the end it is the root.
@@ -55,9 +46,6 @@ impl Path {
         ensures value { result ≡ slice_index (steps self.now) place }
         ensures bound { result < 256 }
     {
-        if !self.has(place) {
-            return 0;
-        }
-        self.kept(place)
+        self.as_slice().get(place).map_or(0, |g| usize::from(*g))
     }
 }

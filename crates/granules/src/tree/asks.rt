@@ -1,48 +1,10 @@
 // Questions to a tree. A granule that the tree does not have counts as a child of the root, and is no record.
-ghost use Rattle.std.specs.Prelude.{◌≡◌, ℕ, ◌+◌, ◌<◌, ◌≤◌, true, [], ◌∷◌, ◌++◌, length, if◌then◌else◌, nat_lt, slice_index};
-ghost use Rattle.granules.specs.Paths.{parent, path, beneath, settled, is_record, record_beneath, records_beneath};
+ghost use Rattle.std.specs.Prelude.{◌≡◌, ℕ, ◌<◌, ◌≤◌, true, [], ◌∷◌, length, MatchOption, if◌then◌else◌, nat_lt};
+ghost use Rattle.granules.specs.Paths.{parent, path, beneath, is_record, record_beneath, records_beneath};
 ghost use Rattle.granules.specs.Trees.{table, steps, span};
 
-use super::Tree;
+use super::{Node, Tree};
 use crate::path::Path;
-
-// What a climb that looks for a granule knows where it stands: found, not found at the root, nothing yet elsewhere.
-fn settled(above: usize, granule: usize) -> Option<bool>
-    ensures value { result ≡ settled above granule }
-{
-    if granule == above {
-        Some(true)
-    } else if granule == 0 {
-        Some(false)
-    } else {
-        None
-    }
-}
-
-// The path of a granule, from that of its parent.
-fn extended(above: Path, granule: usize) -> Path
-    requires room { above.len < 8 }
-    requires byte { granule < 256 }
-    ensures value { steps result ≡ steps above ++ granule ∷ [] }
-{
-    above.then(granule as u8)
-}
-
-// Where a span of one granule alone ends.
-fn end_after(granule: usize) -> usize
-    requires { granule < 256 }
-    ensures value { result ≡ granule + 1 }
-{
-    granule + 1
-}
-
-// A count, with one more if that is to be counted.
-fn counted(count: usize, counts: bool) -> usize
-    requires { count < 256 }
-    ensures value { result ≡ count + (if counts then 1 else 0) }
-{
-    if counts { count + 1 } else { count }
-}
 
 impl Tree {
     // How many granules there are.
@@ -60,57 +22,54 @@ impl Tree {
         granule < self.granules
     }
 
-    // The parent that is kept of a granule that there is.
-    fn kept_parent(&self, granule: usize) -> usize
-        requires { granule < self.now.granules }
-        ensures value { result ≡ slice_index self.now.parents granule }
+    // What is kept of a granule, if there is such a one.
+    fn node(&self, granule: usize) -> Option<&Node>
+        ensures kept { MatchOption result (length (table self.now) ≤ granule) (λ n. (n.now.parent ≡ parent (table self.now) granule) × (n.now.leaf ≡ is_record (table self.now) granule)) }
     {
-        self.parents[granule] as usize
+        self.nodes[..self.granules].get(granule)
     }
 
     pub fn parent(&self, granule: usize) -> usize
         ensures value { result ≡ parent (table self.now) granule }
     {
-        if !self.has(granule) {
-            return 0;
-        }
-        self.kept_parent(granule)
+        self.node(granule).map_or(0, |n| usize::from(n.parent))
     }
 
+    #[tactic(auto, using(crate::proofs::Climbs::record_outside))]
     pub fn is_record(&self, granule: usize) -> bool
         ensures value { result ≡ is_record (table self.now) granule }
     {
-        self.has(granule) && self.records[granule]
+        self.node(granule).is_some_and(|n| n.leaf)
     }
 
     // Whether a granule lies beneath another.
+    #[tactic(auto, using(crate::proofs::Kept::parent_falls, crate::proofs::Kept::climb_found, crate::proofs::Kept::climb_ends, crate::proofs::Kept::climb_on))]
     pub fn is_beneath(&self, above: usize, granule: usize) -> bool
         ensures value { result ≡ beneath (table self.now) above granule }
     {
-        match settled(above, granule) {
-            Some(known) => known,
-            None => self.is_beneath(above, self.parent(granule)),
-        }
+        granule == above || (granule != 0 && self.is_beneath(above, self.parent(granule)))
     }
 
     // The granules from the root down to one; for a number beyond 255, which is no granule's, the root alone.
+    #[tactic(auto, using(crate::proofs::Kept::parent_falls, crate::proofs::Kept::path_ends, crate::proofs::Kept::path_on, crate::proofs::Kept::path_fits))]
     pub fn path(&self, granule: usize) -> Path
         ensures value { steps result ≡ (if nat_lt granule 256 then path (table self.now) granule else 0 ∷ []) }
     {
         if granule == 0 || granule > 255 {
             return Path::root();
         }
-        extended(self.path(self.parent(granule)), granule)
+        self.path(self.parent(granule)).then(granule as u8)
     }
 
     // Where records beneath a granule can lie: from the first number up to the second, which is not among them.
+    #[tactic(auto, using(crate::proofs::Kept::size, crate::proofs::Kept::record_inside, crate::proofs::Kept::beneath_record, crate::proofs::Kept::beneath_other))]
     pub fn span(&self, granule: usize) -> (usize, usize)
         ensures value { result ≡ span (table self.now) granule }
         ensures all { (k : ℕ) → record_beneath (table self.now) granule k ≡ true → (result.0 ≤ k) × (k < result.1) }
         ensures bound { result.1 ≤ length (table self.now) }
     {
         if self.is_record(granule) {
-            (granule, end_after(granule))
+            (granule, granule + 1)
         } else {
             (granule, self.granules)
         }
@@ -129,11 +88,6 @@ impl Tree {
         ensures some { granule < length (table self.now) → 0 < result }
         ensures bound { result ≤ 256 }
     {
-        let (first, end) = self.span(granule);
-        let mut count = 0;
-        for g in first..end {
-            count = counted(count, self.is_record_beneath(granule, g));
-        }
-        count
+        self.records(granule).count()
     }
 }

@@ -1,12 +1,12 @@
 // The check of a parents table.
-ghost use Rattle.std.specs.Prelude.{◌≡◌, ℕ, ◌+◌, ◌<◌, ◌≤◌, true, false, not, ◌&&◌, length, take, IfOk, ◌==◌, nat_lt, slice_index_or};
+ghost use Rattle.std.specs.Prelude.{◌≡◌, ℕ, ◌+◌, ◌<◌, ◌≤◌, true, false, not, ◌&&◌, length, map, take, IfOk, ◌==◌, nat_lt, slice_index_or};
 ghost use Rattle.std.specs.Result.{result_err};
 ghost use Rattle.granules.specs.Below.{some_below};
 ghost use Rattle.granules.specs.Paths.{parent, path};
 ghost use Rattle.granules.specs.Tables.{fault, rooted, right_for, shallow};
 ghost use Rattle.granules.specs.Trees.{table};
 
-use super::Tree;
+use super::{Node, Tree};
 use crate::unfit::Unfit;
 
 // Whether a granule may have this parent.
@@ -24,15 +24,11 @@ fn is_right(granule: usize, parent: u32) -> bool
 fn is_rooted(parents: &[u32]) -> bool
     ensures value { result ≡ rooted parents.now }
 {
-    for (g, p) in parents.iter().enumerate() {
-        if !is_right(g, *p) {
-            return false;
-        }
-    }
-    true
+    parents.iter().enumerate().all(|(g, p)| is_right(g, *p))
 }
 
 // How many granules the path of one has.
+#[tactic(auto, using(crate::proofs::Climbs::rooted_falls, crate::proofs::Climbs::depth_root, crate::proofs::Climbs::depth_more, crate::proofs::Climbs::depth_long))]
 fn depth(parents: &[u32], granule: usize) -> usize
     requires rooted { rooted parents.now ≡ true }
     requires within { granule < length parents.now }
@@ -50,42 +46,28 @@ fn is_shallow(parents: &[u32]) -> bool
     requires { rooted parents.now ≡ true }
     ensures value { result ≡ shallow parents.now }
 {
-    for g in 0..parents.len() {
-        if depth(parents, g) > 8 {
-            return false;
-        }
-    }
-    true
+    (0..parents.len()).all(|g| depth(parents, g) <= 8)
 }
 
-// The table as a tree keeps it: no parent is beyond 255.
-fn narrowed(parents: &[u32]) -> [u8; 256]
+// The table as a tree keeps it, and which granules are nobody's parent: no parent is beyond 255.
+fn kept(parents: &[u32]) -> [Node; 256]
     requires rooted { rooted parents.now ≡ true }
     requires few { length parents.now ≤ 256 }
-    ensures value { take (length parents.now) result ≡ parents.now }
+    ensures parents { take (length parents.now) (map (λ n. n.parent) result) ≡ parents.now }
+    ensures leaves { (g : ℕ) → g < 256 → slice_index_or (map (λ n. n.leaf) result) g false ≡ not (some_below (length parents.now) (λ h. nat_lt 0 h && parent parents.now h == g)) }
     ensures len { length result ≡ 256 }
 {
-    let mut narrow = [0; 256];
+    let mut nodes = [Node {
+        parent: 0,
+        leaf: true,
+    }; 256];
     for (g, p) in parents.iter().enumerate() {
-        narrow[g] = *p as u8;
+        nodes[g].parent = *p as u8;
     }
-    narrow
-}
-
-// Which granules are nobody's parent.
-fn childless(parents: &[u32]) -> [bool; 256]
-    requires rooted { rooted parents.now ≡ true }
-    requires few { length parents.now ≤ 256 }
-    ensures value { (g : ℕ) → g < 256 → slice_index_or result g false ≡ not (some_below (length parents.now) (λ h. nat_lt 0 h && parent parents.now h == g)) }
-    ensures len { length result ≡ 256 }
-{
-    let mut free = [true; 256];
-    for (g, p) in parents.iter().enumerate() {
-        if g > 0 {
-            free[*p as usize] = false;
-        }
+    for p in parents.iter().skip(1) {
+        nodes[*p as usize].leaf = false;
     }
-    free
+    nodes
 }
 
 impl Tree {
@@ -104,12 +86,9 @@ impl Tree {
         if !is_shallow(parents) {
             return Err(Unfit::Path);
         }
-        let records = childless(parents);
-        let parents = narrowed(parents);
         Ok(Tree {
             granules,
-            parents,
-            records,
+            nodes: kept(parents),
         })
     }
 }

@@ -1,7 +1,5 @@
 use Rattle.std.proofs.Common.{◌≡◌, ◌+◌, List, length, take, vec_items, sym, ◌∙◌, subst, arith}
-use Rattle.std.proofs.lemmas.List.{take_all}
 use Rattle.granules.specs.Trees.{table}
-use Rattle.operations.specs.declared.operation.Operation.{Operation}
 use Rattle.operations.specs.declared.operation.Outcome.{Outcome}
 use Rattle.operations.specs.Alone.{Alone, noted}
 use Rattle.operations.proofs.Steps.{ran_more}
@@ -25,19 +23,3 @@ loop-operation-preserved g c =
           c.carry_out-answer.result (words c.loop-operation.shelf) (words c.carry_out-answer.new.shelf)
           c.loop-operation-test.true long c.carry_out-answer.ensures.value c.carry_out-answer.ensures.after before.2),
     )
-
-pub returns : goal.returns
-returns g c =
-    let inv = c.loop-operation.invariant in
-    let v = c.loop-operation.answers in
-    let os = c.args.operations.now in
-    let words = g.S.Shelf.words in
-    let i = c.loop-operation.operation-index in
-    record {
-      ran = (
-        omega (arith, v.ok.0, inv.0),
-        subst
-            (λ (xs : List Operation). Alone (table c.args.tree.now) (words c.args.shelf.now) (noted xs (vec_items v)) (words c.loop-operation.shelf))
-            (take_all i os c.loop-operation-test.false) inv.2,
-      );
-    }

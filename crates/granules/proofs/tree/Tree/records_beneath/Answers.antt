@@ -1,46 +1,28 @@
-use Rattle.std.proofs.Common.{◌≡◌, ℕ, ◌+◌, Bool, cond, length, sym, ◌∙◌, ap₂, arith}
-use Rattle.granules.specs.Below.{count_below}
-use Rattle.granules.specs.Paths.{record_beneath}
-use Rattle.granules.specs.Trees.{table}
-use Rattle.granules.proofs.Below.{sum_none, sum_same, sum_more, count_le}
+use Rattle.std.proofs.Common.{length, inl, ap, ◌∙◌, arith}
+use Rattle.std.proofs.lemmas.Iterator.Consumers.{YieldsList-from_first, count_from_yields_List}
+use Rattle.granules.specs.Paths.{record_beneath, records}
+use Rattle.granules.specs.Trees.{table, ahead}
+use Rattle.granules.proofs.Below.{count_le}
 use Rattle.granules.proofs.Climbs.{records_some}
+use Rattle.granules.proofs.Counts.{count_range}
 use Rattle.granules.proofs.Kept.{size, tree_falls}
 use Rattle.granules.proofs.tree.Tree.records_beneath.Goals as goal
 
-pub loop-g-init : goal.loop-g-init
-loop-g-init c =
+pub count-requires-clause-fits : goal.count-requires-clause-fits
+count-requires-clause-fits c =
     let t = c.args.self.now in
-    sym
-    (sum_none c.span-first.result.0 (record_beneath (table t) c.args.granule) (λ _. 1)
-    (λ k l b. omega (arith, (c.span-first.ensures.all k b).0)))
-
-pub counted-count-requires : goal.counted-count-requires
-counted-count-requires c =
-    let t = c.args.self.now in
-    let below = count_le c.loop-g.g (record_beneath (table t) c.args.granule) in
-    omega (arith, c.loop-g.invariant, c.span-first.ensures.bound, size t, t.few)
-
-pub loop-g-preserved : goal.loop-g-preserved
-loop-g-preserved c =
-    let t = c.args.self.now in
-    let g = c.loop-g.g in
     let test = record_beneath (table t) c.args.granule in
-    let more = sum_more g test (λ _. 1) in
-    c.counted-count.ensures.value
-    ∙ ap₂ (λ (n : ℕ) (b : Bool). n + cond b 1 0) c.loop-g.invariant c.is_record_beneath.ensures.value
-    ∙ sym more
+    let same = ap length c.records.ensures.value ∙ count_range (length (table t)) test in
+    inl (omega (arith, count_le (length (table t)) test, size t, t.few))
 
 pub returns : goal.returns
 returns c =
     let t = c.args.self.now in
     let test = record_beneath (table t) c.args.granule in
-    let all : c.loop-g.count ≡ count_below (length (table t)) test =
-    c.loop-g.invariant
-    ∙ sum_same c.loop-g.g (length (table t)) test (λ _. 1)
-    (λ k b.
-    let s = (c.span-first.ensures.all k b).1 in
-    let e = c.span-first.ensures.bound in
-    (omega arith, omega arith))
+    let all =
+    count_from_yields_List c.records.result c.count.result c.count.ensures.ran
+    (YieldsList-from_first (λ x. x) ahead (records (table t) c.args.granule) c.records.ensures.value)
+    ∙ count_range (length (table t)) test
     in
     record {
       value = all;

@@ -1,20 +1,17 @@
-use Rattle.std.proofs.Common.{length, sym}
-use Rattle.granules.specs.Paths.{parent}
+use Rattle.std.proofs.Common.{ℕ, ◌∙◌, rules, tests}
+use Rattle.std.proofs.lemmas.Iterator.{YieldsList-from_slice}
+use Rattle.std.proofs.lemmas.Iterator.Consumers.{YieldsList-from_enumerate}
+use Rattle.std.proofs.lemmas.Iterator.Search.{all_from_yields_List}
 use Rattle.granules.specs.Tables.{right_for}
-use Rattle.granules.proofs.Below.{each_fails, each_more}
+use Rattle.granules.proofs.Counts.{all_pairs}
 use Rattle.granules.proofs.tree.makes.is_rooted.Goals as goal
 
-pub returns-then-not-is_right : goal.returns-then-not-is_right
-returns-then-not-is_right c =
+pub returns : goal.returns
+returns c =
     let ps = c.args.parents.now in
     record {
       value =
-          sym
-          (each_fails (length ps) (λ g. right_for g (parent ps g)) c.loop-g.g c.loop-g-test.true
-          (sym c.if-not-is_right.ensures.value));
+          all_from_yields_List (λ (p : ℕ × ℕ). right_for p.0 p.1) _ _ c.all.result c.all.ensures.ran
+          (YieldsList-from_enumerate (YieldsList-from_slice ps (cc)) c.enumerate.ensures.count) (λ x b q k. search (rules, tests))
+          ∙ all_pairs ps right_for;
     }
-
-pub loop-g-preserved : goal.loop-g-preserved
-loop-g-preserved c =
-    let ps = c.args.parents.now in
-    each_more c.loop-g.g (λ g. right_for g (parent ps g)) c.loop-g.invariant (sym c.if-not-is_right.ensures.value)

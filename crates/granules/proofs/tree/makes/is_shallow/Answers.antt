@@ -1,22 +1,17 @@
-use Rattle.std.proofs.Common.{leb, length, sym, arith}
-use Rattle.std.proofs.lemmas.Bool.{le-leb, lt-leb}
+use Rattle.std.proofs.Common.{leb, length, refl, ◌∙◌, arith, rules, tests}
+use Rattle.std.proofs.lemmas.Iterator.{YieldsList-from_range}
+use Rattle.std.proofs.lemmas.Iterator.Search.{all_from_yields_List}
 use Rattle.granules.specs.Paths.{path}
-use Rattle.granules.proofs.Below.{each_fails, each_more}
+use Rattle.granules.proofs.Counts.{all_range}
 use Rattle.granules.proofs.tree.makes.is_shallow.Goals as goal
 
-pub returns-then-depth-gt8 : goal.returns-then-depth-gt8
-returns-then-depth-gt8 c =
+pub returns : goal.returns
+returns c =
     let ps = c.args.parents.now in
-    let g = c.loop-g.g in
+    let test = λ (g : _). leb (length (path ps g)) 8 in
     record {
       value =
-          sym
-          (each_fails (length ps) (λ g. leb (length (path ps g)) 8) g c.loop-g-test.true
-          (lt-leb (length (path ps g)) 8 (omega (arith, c.depth.ensures.value))));
+          all_from_yields_List test _ _ c.all.result c.all.ensures.ran
+          (YieldsList-from_range 0 (length ps) (length ps) refl (omega arith)) (λ x b q k. search (rules, tests))
+          ∙ all_range (length ps) test;
     }
-
-pub loop-g-preserved : goal.loop-g-preserved
-loop-g-preserved c =
-    let ps = c.args.parents.now in
-    let g = c.loop-g.g in
-    each_more g (λ g. leb (length (path ps g)) 8) c.loop-g.invariant (le-leb (length (path ps g)) 8 (omega (arith, c.depth.ensures.value)))
