@@ -2,8 +2,7 @@
 use Rattle.std.proofs.Common.{◌≡◌, ℕ, suc, ◌+◌, ◌-◌, ◌<◌, Bool, true, false, List, [], ◌∷◌, ◌++◌, length, get_or, take, drop, IsErrAnd, Some, None, Ok, Err, Option, Result, sym, refl, ap, ◌∙◌, subst, add-one, arith}
 use Rattle.std.proofs.lemmas.List.{append_assoc, append-nil, take_all}
 use Rattle.entries.specs.Cuts.{Remains, entries_after}
-use Rattle.alone.specs.declared.input.Denied.{Denied}
-use Rattle.alone.specs.declared.input.Denied.TheVariants.{Memory}
+use Rattle.alone.specs.declared.denied.Denied.{Denied}
 use Rattle.alone.specs.Inputs.{ReadAs, Reading, good, bad, and_then, closed, spent, next, all_of, lettered, operation_in}
 
 -- what follows, after the values xs
@@ -92,11 +91,12 @@ pub kept :
 kept f l count start i {ys = ys} {r = r} e h left =
     subst (λ t. Left f l count start i ys t) h (subst (λ zs. Left f l count start i zs r) e left)
 
--- for want of memory nothing is promised
-pub unread :
-    {A B : Type 0} (view : A → B) (defined : Reading B) (r : Result A Denied) → IsErrAnd r (λ d. d ≡ Memory) → ReadAs view defined r
-unread view defined (Ok x) h = absurd h
-unread view defined (Err d) h = subst (λ (e : Denied). ReadAs view defined (Err e)) (sym h) tt
+-- what is said of an error is said of the answer that passes it on
+pub passed :
+    {A B : Type 0} (view : A → B) (defined : Reading B) (d : Denied) (r : Result A Denied) → IsErrAnd r (λ e. e ≡ d)
+    → ReadAs view defined (Err d) → ReadAs view defined r
+passed view defined d (Ok x) h p = absurd h
+passed view defined d (Err e) h p = subst (λ (x : Denied). ReadAs view defined (Err x)) (sym h) p
 
 -- an operation begins with its letter
 pub operation_from :

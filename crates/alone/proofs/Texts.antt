@@ -1,11 +1,12 @@
 -- A whole text, line by line.
-use Rattle.std.proofs.Common.{◌≡◌, ℕ, eqb, List, length, IsErrAnd, Ok, Err, vec_items, Result, sym, refl, ap, subst}
+use Rattle.std.proofs.Common.{◌≡◌, ℕ, eqb, List, length, IsErrAnd, Err, vec_items, Result, sym, refl, ap, subst}
 use Rattle.std.specs.declared.alloc.Global.{Global}
 use Rattle.entries.specs.Numbers.{numeral}
 use Rattle.entries.specs.Cuts.{Remains, line, lines_after}
-use Rattle.alone.specs.declared.input.Denied.{Denied}
-use Rattle.alone.specs.declared.input.Denied.TheVariants.{Entry, Memory}
+use Rattle.alone.specs.declared.denied.Denied.{Denied}
+use Rattle.alone.specs.declared.denied.Denied.TheVariants.{Entry, Table, Memory}
 use Rattle.alone.specs.declared.input.Work.{Work}
+use Rattle.alone.proofs.Readings.{passed}
 use Rattle.alone.specs.Inputs.{ReadAs, Reading, good, and_then, closed, sizes, all_of, operation_in, read_lines, reading, Input, input_of}
 
 -- a text is its four lines and what follows them
@@ -33,11 +34,9 @@ then_next view part x next r h rest = subst (λ p. ReadAs view (and_then p next)
 pub bad_part :
     {A B C D : Type 0} (part_view : C → A) (view : D → B) (part : Reading A) (next : A → Reading B) (d : Denied) (r : Result D Denied)
     → IsErrAnd r (λ e. e ≡ d) → ReadAs part_view part (Err d) → ReadAs view (and_then part next) r
-bad_part part_view view part next d (Ok x) h p = absurd h
-bad_part part_view view part next (Entry l e) (Err y) h p =
-    subst (λ (z : Denied). ReadAs view (and_then part next) (Err z)) (sym h) (ap (λ q. and_then q next) p)
-bad_part part_view view part next Memory (Err y) h p =
-    subst (λ (z : Denied). ReadAs view (and_then part next) (Err z)) (sym h) tt
+bad_part part_view view part next (Entry l e) r h p = passed view _ (Entry l e) r h (ap (λ q. and_then q next) p)
+bad_part part_view view part next (Table unfit) r h p = absurd p
+bad_part part_view view part next Memory r h p = passed view _ Memory r h tt
 
 -- each of the four lines may be bad
 pub first_bad :

@@ -1,14 +1,13 @@
 -- How a text reads: as what is to be run, or as bad at the first entry that is not as it should be.
 use Rattle.std.specs.Prelude.{◌≡◌, ℕ, zero, suc, Bool, true, false, cond, not, ◌&&◌, List, [], ◌∷◌, length, is_some, Some, None, Ok, Err, vec_items, Option, Result, ◌==◌, nat_le, nat_lt}
 use Rattle.std.specs.Option.{option_map}
-use Rattle.entries.specs.declared.line.Line.{Line}
 use Rattle.entries.specs.Cuts.{Remains, head, tail, line, lines_after, entry, entries_after}
 use Rattle.entries.specs.Numbers.{numeral}
 use Rattle.operations.specs.declared.operation.Action.{Action}
 use Rattle.operations.specs.declared.operation.Action.TheVariants.{Read, Mean, Set, Add}
 use Rattle.operations.specs.declared.operation.Operation.{Operation}
-use Rattle.alone.specs.declared.input.Denied.{Denied}
-use Rattle.alone.specs.declared.input.Denied.TheVariants.{Entry, Memory}
+use Rattle.alone.specs.declared.denied.Denied.{Denied}
+use Rattle.alone.specs.declared.denied.Denied.TheVariants.{Entry, Table, Memory}
 use Rattle.alone.specs.declared.input.Work.{Work}
 
 -- What a text asks to be run.
@@ -68,11 +67,7 @@ abbrev pub operation_in : ℕ → List ℕ → Option Operation
 operation_in granules [] = None
 operation_in granules (letter ∷ rest) = lettered granules letter rest
 
--- What is left to read of a `Line`.
-abbrev pub remains : Line → Remains
-remains l = record { bytes = option_map (λ x. x.now) l.rest; whole = l.whole }
-
--- Whether all its entries have been read.
+-- Whether all entries of a line have been read.
 abbrev pub spent : Remains → Bool
 spent r = not (is_some r.bytes)
 
@@ -115,11 +110,12 @@ reading text =
     let fourth = lines_after third in
     read_lines (line text) (line second) (line third) (line fourth) (lines_after fourth)
 
--- What a function that reads promises of its answer, as `view` sees it: that it is what is defined. For want of memory it
--- promises nothing.
+-- What a function that reads promises of its answer, as `view` sees it: that it is what is defined. It refuses no table, and
+-- for want of memory it promises nothing.
 abbrev pub ReadAs : {A B : Type 0} → (A → B) → Reading B → Result A Denied → Type 0
 ReadAs view defined (Ok x) = defined ≡ good (view x)
 ReadAs view defined (Err (Entry l e)) = defined ≡ bad l e
+ReadAs view defined (Err (Table unfit)) = ⊥
 ReadAs view defined (Err Memory) = Unit {0}
 
 -- What is to be run, as lists.

@@ -1,17 +1,17 @@
 // Reading the input, entry by entry.
 ghost use Rattle.std.specs.Prelude.{◌≡◌, ◌≤◌, length, IfOk, vec_items, ◌==◌};
 ghost use Rattle.std.specs.Option.{option_map};
-ghost use Rattle.entries.specs.Cuts.{line as line_of, lines_after, entries_after};
-ghost use Rattle.entries.specs.Numbers.{numeral};
-ghost use Rattle.alone.specs.declared.input.Denied.TheVariants.{Memory};
-ghost use Rattle.alone.specs.Inputs.{ReadAs, closed, within, remains, next, sizes, all_of, reading, input_of};
+ghost use Rattle.entries.specs.Cuts.{line as line_of, lines_after};
+ghost use Rattle.entries.specs.Lines.{remains};
+ghost use Rattle.alone.specs.Inputs.{ReadAs, closed, within, sizes, all_of, reading, input_of};
 ghost use Rattle.alone.specs.Inputs.{action_of, granule_in, lettered, operation_in};
 
+use crate::denied::Denied;
 use entries::cut::cut_at;
 use entries::number::number;
 use entries::{Line, Lines};
 use operations::{Action, Operation};
-use std::alloc::{AllocFailed, Global};
+use std::alloc::Global;
 
 // What is to be run.
 #[derive(Drop)]
@@ -21,38 +21,11 @@ pub struct Work {
     pub operations: Vec<Operation>,
 }
 
-// Why the input was not read.
-#[derive(Clone, Copy, PartialEq, Eq, Debug)]
-pub enum Denied {
-    // the entry at this line and place, both from 1, is empty, missing, surplus, ill formed or out of range
-    Entry(u32, u32),
-    Memory,
-}
-
-impl<T: Drop> From<AllocFailed<T>> for Denied {
-    ghost from_gives = { λ _ d. d ≡ Memory };
-
-    fn from(_: AllocFailed<T>) -> Denied {
-        Denied::Memory
-    }
-}
-
-// The next entry of a line, if it is a number.
-fn next_number(line: &mut Line<'_>) -> Option<u32>
-    ensures value { result ≡ next numeral (remains line.old) }
-    ensures after { remains line.new ≡ entries_after (remains line.old) }
-{
-    number(line.next_entry()?)
-}
-
 // A number, if there is one and it lies from `low` to `high`.
 fn bounded(value: Option<u32>, low: u32, high: u32) -> Option<u32>
     ensures value { result ≡ within low high value }
 {
-    match value {
-        Some(value) if value >= low && value <= high => Some(value),
-        _ => None,
-    }
+    value.filter(|value| (low..=high).contains(value))
 }
 
 // Line 1: the number of granules and the number of operations.
@@ -60,28 +33,34 @@ fn sizes(mut line: Line<'_>) -> Result<(u32, u32), Denied>
     ensures value { ReadAs (λ n. n) (sizes (remains line.entry)) result }
     ensures bound { IfOk result (λ n. (n.0 ≤ 256) × (n.1 ≤ 1024)) }
 {
-    let Some(granules) = bounded(next_number(&mut line), 1, 256) else {
-        return Err(Denied::Entry(1, 1));
-    };
-    let Some(operations) = bounded(next_number(&mut line), 0, 1024) else {
-        return Err(Denied::Entry(1, 2));
-    };
+    let granules = line.next_entry().and_then(number);
+    let granules = bounded(granules, 1, 256).ok_or(Denied::Entry(1, 1))?;
+    let operations = line.next_entry().and_then(number);
+    let operations = bounded(operations, 0, 1024).ok_or(Denied::Entry(1, 2))?;
     if !line.is_spent() {
         return Err(Denied::Entry(1, 3));
     }
     Ok((granules, operations))
 }
 
-// A line of numbers.
-fn numbers(heap: Global, mut line: Line<'_>, at: u32, count: u32) -> Result<Vec<u32>, Denied>
-    requires { count ≤ 1024 }
-    ensures value { ReadAs vec_items (all_of numeral at 1 count (remains line.entry)) result }
+// The entries of a line, so many and no more, as `read` reads each.
+fn entries<T: Drop, F: Fn(&[u8]) -> Option<T>>(
+    heap: Global,
+    mut line: Line<'_>,
+    at: u32,
+    count: u32,
+    read: F,
+) -> Result<Vec<T>, Denied>
+    requires few { count ≤ 1024 }
+    requires callable { F.IsAlwaysCallable read }
+    ensures value { (f : _) → ((entry : _) (r : _) → F.post read entry r → r ≡ f entry.now) → ReadAs vec_items (all_of f at 1 count (remains line.entry)) result }
 {
     let mut values = Vec::new(heap);
     for i in 0..count {
-        let Some(value) = next_number(&mut line) else {
-            return Err(Denied::Entry(at, i + 1));
-        };
+        let value = line
+            .next_entry()
+            .and_then(&read)
+            .ok_or(Denied::Entry(at, i + 1))?;
         values.push(value)?;
     }
     if !line.is_spent() {
@@ -107,11 +86,7 @@ fn action(letter: u8, word: Option<&[u8]>) -> Option<Action>
 fn granule(bytes: &[u8], granules: u32) -> Option<u32>
     ensures value { result ≡ granule_in granules bytes.now }
 {
-    let granule = number(bytes)?;
-    if granule >= granules {
-        return None;
-    }
-    Some(granule)
+    number(bytes).filter(|granule| *granule < granules)
 }
 
 // An operation by its letter and what follows it: a granule and, for `s` and `a`, a word after `=`.
@@ -132,37 +107,6 @@ fn operation(entry: &[u8], granules: u32) -> Option<Operation>
         [] => None,
         [letter, rest @ ..] => lettered(*letter, rest, granules),
     }
-}
-
-// The next entry of a line, if it is an operation.
-fn next_operation(line: &mut Line<'_>, granules: u32) -> Option<Operation>
-    ensures value { result ≡ next (operation_in granules) (remains line.old) }
-    ensures after { remains line.new ≡ entries_after (remains line.old) }
-{
-    operation(line.next_entry()?, granules)
-}
-
-// Line 4: the operations.
-fn steps(
-    heap: Global,
-    mut line: Line<'_>,
-    granules: u32,
-    count: u32,
-) -> Result<Vec<Operation>, Denied>
-    requires { count ≤ 1024 }
-    ensures value { ReadAs vec_items (all_of (operation_in granules) 4 1 count (remains line.entry)) result }
-{
-    let mut operations = Vec::new(heap);
-    for i in 0..count {
-        let Some(operation) = next_operation(&mut line, granules) else {
-            return Err(Denied::Entry(4, i + 1));
-        };
-        operations.push(operation)?;
-    }
-    if !line.is_spent() {
-        return Err(Denied::Entry(4, count + 1));
-    }
-    Ok(operations)
 }
 
 // The next line of a text.
@@ -189,9 +133,15 @@ pub fn read(heap: Global, text: &[u8]) -> Result<Work, Denied>
 {
     let mut lines = Lines::new(text);
     let (granules, count) = sizes(next_line(&mut lines))?;
-    let parents = numbers(heap, next_line(&mut lines), 2, granules)?;
-    let words = numbers(heap, next_line(&mut lines), 3, granules)?;
-    let operations = steps(heap, next_line(&mut lines), granules, count)?;
+    let parents = entries(heap, next_line(&mut lines), 2, granules, number)?;
+    let words = entries(heap, next_line(&mut lines), 3, granules, number)?;
+    let operations = entries(
+        heap,
+        next_line(&mut lines),
+        4,
+        count,
+        |entry| operation(entry, granules),
+    )?;
     let work = Work {
         parents,
         words,

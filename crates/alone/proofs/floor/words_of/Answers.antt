@@ -1,17 +1,18 @@
-use Rattle.std.proofs.Common.{ℕ, List, [], ◌∷◌, ◌++◌, vec_items, sym, ap, ◌∙◌}
-use Rattle.alone.proofs.Floors.{take_word, take_none}
+use Rattle.std.proofs.Common.{◌≡◌, ℕ, IfOk, List, vec_items, subst, arith, rules, tests}
+use Rattle.std.proofs.lemmas.Iterator.{YieldsList-from_range, items_from_collect}
+use Rattle.std.proofs.lemmas.Iterator.Consumers.{YieldsList-from_filter_map}
+use Rattle.shelf.specs.Words.{at}
+use Rattle.alone.proofs.Floors.{words_at}
 use Rattle.alone.proofs.floor.words_of.Goals as goal
-use Rattle.alone.proofs.floor.words_of.Goals.{in-Some+in_ok-push, in_default}
 
-pub loop-place-preserved : goal.loop-place-preserved
-loop-place-preserved g c =
+pub returns : goal.returns
+returns g c =
     let ws = g.S.Shelf.words c.args.shelf.now in
-    let i = c.loop-place.place in
-    elim c.match-get.branch [
-      | in-Some+in_ok-push w ↦
-          ap vec_items w.words-is
-          ∙ w.in_ok-push.ensures.items
-          ∙ ap (λ (xs : List ℕ). xs ++ w.in-Some.word ∷ []) c.loop-place.invariant
-          ∙ sym (take_word ws i w.in-Some.word w.in-Some.ensures.value)
-      | in_default w ↦ ap vec_items w.words-is ∙ c.loop-place.invariant ∙ sym (take_none ws i w.in_default.ensures.value)
-    ]
+    let n = c.args.wanted in
+    record {
+      made =
+          subst (λ (xs : List ℕ). IfOk c.collect.result (λ v. vec_items v ≡ xs)) (words_at ws n)
+          (items_from_collect c.collect.result c.collect.ensures.ran
+          (YieldsList-from_filter_map _ (λ (i : ℕ). at ws i) (YieldsList-from_range 0 n n c.filter_map.ensures.source (omega arith))
+          c.filter_map.ensures.closure (λ x r q k. search (rules, tests))));
+    }

@@ -1,5 +1,6 @@
-use Rattle.std.proofs.Common.{vec_items, sym, refl, ◌∙◌, subst}
-use Rattle.alone.specs.Inputs.{ReadAs, Input, input_of}
+use Rattle.std.proofs.Common.{vec_items, sym, refl, ◌∙◌, subst, rules}
+use Rattle.entries.specs.Numbers.{numeral}
+use Rattle.alone.specs.Inputs.{ReadAs, Input, input_of, operation_in}
 use Rattle.alone.proofs.Texts.{text_of, first_bad, second_bad, third_bad, fourth_bad, all_good}
 use Rattle.alone.proofs.input.read.Goals as goal
 
@@ -30,7 +31,7 @@ returns-in_err-parents c =
           subst (λ d. ReadAs input_of d r) text
           (second_bad _ _ _ _ _ c.in_ok-granules.granules c.in_ok-granules.count
           c.in_err-parents.field-0.0 r c.in_ok-granules.ensures.value
-          c.from_residual-in_err-parents.ensures.1 c.in_err-parents.ensures.value);
+          c.from_residual-in_err-parents.ensures.1 (c.in_err-parents.ensures.value numeral (λ entry r k. k.0)));
     }
 
 pub returns-in_err-words : goal.returns-in_err-words
@@ -46,8 +47,8 @@ returns-in_err-words c =
           subst (λ d. ReadAs input_of d r) text
           (third_bad _ _ _ _ _ c.in_ok-granules.granules c.in_ok-granules.count
           (vec_items c.in_ok-parents.parents) c.in_err-words.field-0.0 r
-          c.in_ok-granules.ensures.value c.in_ok-parents.ensures.value
-          c.from_residual-in_err-words.ensures.1 c.in_err-words.ensures.value);
+          c.in_ok-granules.ensures.value (c.in_ok-parents.ensures.value numeral (λ entry r k. k.0))
+          c.from_residual-in_err-words.ensures.1 (c.in_err-words.ensures.value numeral (λ entry r k. k.0)));
     }
 
 pub returns-in_err-operations : goal.returns-in_err-operations
@@ -65,8 +66,8 @@ returns-in_err-operations c =
           (fourth_bad _ _ _ _ _ c.in_ok-granules.granules c.in_ok-granules.count
           (vec_items c.in_ok-parents.parents) (vec_items c.in_ok-words.words)
           c.in_err-operations.field-0.0 r c.in_ok-granules.ensures.value
-          c.in_ok-parents.ensures.value c.in_ok-words.ensures.value
-          c.from_residual-in_err-operations.ensures.1 c.in_err-operations.ensures.value);
+          (c.in_ok-parents.ensures.value numeral (λ entry r k. k.0)) (c.in_ok-words.ensures.value numeral (λ entry r k. k.0))
+          c.from_residual-in_err-operations.ensures.1 (c.in_err-operations.ensures.value (operation_in c.in_ok-granules.granules) (λ entry r k. search rules)));
     }
 
 pub returns : goal.returns
@@ -89,8 +90,8 @@ returns c =
           subst (λ d. ReadAs input_of d c.ended.result)
           (sym
           (all_good _ _ _ _ _ c.in_ok-granules.granules c.in_ok-granules.count read
-          c.in_ok-granules.ensures.value c.in_ok-parents.ensures.value
-          c.in_ok-words.ensures.value c.in_ok-operations.ensures.value)
+          c.in_ok-granules.ensures.value (c.in_ok-parents.ensures.value numeral (λ entry r k. k.0))
+          (c.in_ok-words.ensures.value numeral (λ entry r k. k.0)) (c.in_ok-operations.ensures.value (operation_in c.in_ok-granules.granules) (λ entry r k. search rules)))
           ∙ text)
           c.ended.ensures.value;
     }
