@@ -61,5 +61,3 @@ returns-2 g c =
       noted = c.take_back_at.ensures.noted ∙ inv.3;
     }
 
-pub returns : goal.returns
-returns g c = absurd (omega (arith, c.loop-place-test.false, c.loop-place.auto.place-end))
