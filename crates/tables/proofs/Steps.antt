@@ -1,6 +1,5 @@
 -- One granule of a walk, where the mode that a job has is not enough.
-use Rattle.std.proofs.Common.{◌≡◌, ℕ, ◌+◌, ◌<◌, true, false, eqb, List, ◌∷◌, length, get_or, drop, sym, ap, ◌∙◌, ap₂}
-use Rattle.std.proofs.lemmas.List.{drop_more}
+use Rattle.std.proofs.Common.{◌≡◌, ℕ, true, false, eqb, List, ◌∷◌, sym, ap, ◌∙◌, ap₂}
 use Rattle.std.proofs.lemmas.Bool.{ne_eqb}
 use Rattle.modes.specs.Systems.{System}
 use Rattle.granules.specs.Below.{some_below}
@@ -49,10 +48,3 @@ module _ (s : System) (m : Model) (w : Walker) (x mode t : ℕ) (has_mode : mode
         (ap (λ (n : ℕ). model_hands.with_jobs (raise w.job x n (hurt n).jobs) (hurt n)) (sym is_target)
         ∙ ap (λ (n : Model). model_hands.with_jobs (raise w.job x t n.jobs) n) (sym e)
         ∙ sym f)
-
--- a walk that has come to a place of its path
-pub at_place :
-    (s : System) (w : Walker) (m : Model) (xs : List ℕ) (i x : ℕ) → i < length xs → x ≡ get_or xs i 0
-    → walk_on s w (drop i xs) m ≡ walk_on s w (x ∷ drop (i + 1) xs) m
-at_place s w m xs i x l e =
-    ap (λ (ys : List ℕ). walk_on s w ys m) (drop_more xs i 0 l ∙ ap (λ (y : ℕ). y ∷ drop (i + 1) xs) (sym e))
