@@ -3,7 +3,6 @@ pub mod Sitting
 pub mod Slots
 pub mod Grids
 pub mod Tallies
-pub mod Words
 pub mod Views
 pub mod Counts
 pub mod Groups

@@ -5,7 +5,6 @@ use Rattle.std.proofs.lemmas.List.{append-nil, length-set, get_or-set_same, set-
 use Rattle.std.proofs.lemmas.List.Sums.{fold_push}
 use mathlib.Core.Path.{fun_ext}
 use Rattle.std.proofs.lemmas.Bool.{and_left, both_ways, cases_Bool, cases_lt, cond-true, cond-false}
-use Rattle.modes.specs.declared.kind.Kind.TheVariants.{Read as Reading}
 use Rattle.modes.specs.Systems.{System}
 use Rattle.granules.specs.Paths.{beneath, is_record, record_beneath, records}
 use Rattle.granules.specs.declared.tree.Tree.{Tree}
@@ -13,10 +12,7 @@ use Rattle.granules.specs.Trees.{table}
 use Rattle.granules.proofs.Kept.{size}
 use Rattle.granules.proofs.Climbs.{record_outside}
 use Rattle.granules.proofs.Counts.{filter_more}
-use Rattle.operations.specs.declared.operation.Action.{Action}
-use Rattle.operations.specs.declared.operation.Action.TheVariants.{Read, Mean, Set, Add}
 use Rattle.operations.specs.declared.operation.Operation.{Operation}
-use Rattle.operations.specs.Actions.{kind}
 use Rattle.operations.specs.Words.{after}
 use Rattle.ledger.specs.declared.job.Note.{Note}
 use Rattle.ledger.specs.declared.job.Note.TheVariants.{Nothing}
@@ -34,26 +30,12 @@ use Rattle.tables.proofs.Views.{view_row}
 use Rattle.tables.proofs.Wounds.{model_eq}
 use Rattle.tables.proofs.Sitting.{numbers_full}
 
--- a read notes nothing
-still : (a : Action) (w : ℕ) (n : Note) → kind a ≡ Reading → noted a w n ≡ n
-still Read w n e = refl
-still Mean w n e = refl
-still (Set v) w n e = let z : ◌≡◌ {A = ℕ} 0 1 = cc in absurd (omega arith)
-still (Add v) w n e = let z : ◌≡◌ {A = ℕ} 0 1 = cc in absurd (omega arith)
-
 module _ (ps : List ℕ) (o : Operation) (ws : List ℕ) where
   pub noted_there : (r : ℕ) (n : Note) → record_beneath ps o.granule r ≡ true → noted_at ps o ws r n ≡ noted o.action (word_at ws r) n
   noted_there r n e = rw (e, noted_at)
 
   pub noted_else : (r : ℕ) (n : Note) → record_beneath ps o.granule r ≡ false → noted_at ps o ws r n ≡ n
   noted_else r n e = rw (e, noted_at)
-
-  pub noted_still : kind o.action ≡ Reading → (r : ℕ) (n : Note) → noted_at ps o ws r n ≡ n
-  noted_still e r n =
-      elim (cases_Bool (record_beneath ps o.granule r)) [
-        | inl t ↦ noted_there r n t ∙ still o.action (word_at ws r) n e
-        | inr t ↦ noted_else r n t
-      ]
 
 -- The notes of a slot taken, and the words changed: the operation of its job carried out in the model.
 pub carry_view :

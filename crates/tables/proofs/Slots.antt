@@ -1,6 +1,6 @@
 -- What the events of a slot leave of a state.
-use Rattle.std.proofs.Common.{◌≡◌, ◌<◌, Bool, true, false, None, Option, Some, refl}
-use Rattle.std.proofs.lemmas.Bool.{and_from, and_parts, both_ways, lt-ltb}
+use Rattle.std.proofs.Common.{◌≡◌, Bool, true, false, None, Option, Some, refl}
+use Rattle.std.proofs.lemmas.Bool.{and_from, and_parts, both_ways}
 use Rattle.operations.specs.declared.operation.Operation.{Operation}
 use Rattle.ledger.specs.declared.job.Status.{Status}
 use Rattle.ledger.specs.declared.job.Status.TheVariants.{Working, Waiting, Wounded, Ended}
@@ -59,7 +59,3 @@ settles o true Wounded h = absurd (both_ways false refl h)
 settles o false Wounded h = absurd (both_ways false refl h)
 settles o true Ended h = absurd (both_ways false refl h)
 settles o false Ended h = absurd (both_ways false refl h)
-
-pub walked_near : (o : Operation) (b : Bool) → o.granule < 256 → near (walked o b) ≡ true
-walked_near o true l = refl
-walked_near o false l = lt-ltb o.granule 256 l
