@@ -47,6 +47,6 @@ impl From<Unfit> for Refusal {
     ghost from_gives = { λ unfit refusal. refusal ≡ Table unfit };
 
     fn from(unfit: Unfit) -> Refusal {
-        Refusal::Table(unfit)
+        Self::Table(unfit)
     }
 }
