@@ -44,7 +44,7 @@ fn sizes(mut line: Line<'_>) -> Result<(u32, u32), Denied>
 }
 
 // The entries of a line, so many and no more, as `read` reads each.
-fn entries<T: Drop, F: Fn(&[u8]) -> Option<T>>(
+fn all_of<T: Drop, F: Fn(&[u8]) -> Option<T>>(
     heap: Global,
     mut line: Line<'_>,
     at: u32,
@@ -133,9 +133,9 @@ pub fn read(heap: Global, text: &[u8]) -> Result<Work, Denied>
 {
     let mut lines = Lines::new(text);
     let (granules, count) = sizes(next_line(&mut lines))?;
-    let parents = entries(heap, next_line(&mut lines), 2, granules, number)?;
-    let words = entries(heap, next_line(&mut lines), 3, granules, number)?;
-    let operations = entries(
+    let parents = all_of(heap, next_line(&mut lines), 2, granules, number)?;
+    let words = all_of(heap, next_line(&mut lines), 3, granules, number)?;
+    let operations = all_of(
         heap,
         next_line(&mut lines),
         4,

@@ -46,7 +46,8 @@ pub fn report_on(heap: Global, text: &[u8]) -> Result<Report, Denied>
     let work = input::read(heap, text)?;
     let tree = Tree::new(work.parents.as_slice(), work.words.len())?;
     let mut floor = bare_floor(heap)?;
-    Ok(run(heap, &tree, &mut floor, &work)?)
+    let report = run(heap, &tree, &mut floor, &work)?;
+    Ok(report)
 }
 
 // A line for each answer, and one for the words that are left.

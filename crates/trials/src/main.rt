@@ -13,26 +13,13 @@ mod story;
 #[cfg(test)]
 mod tests;
 
-use entries::cut::cut_at;
 use play::line_of;
 use std::fs;
 
-// The most stories of one file.
-const MOST: u32 = 10000;
-
 fn main(rt: HostRuntime) -> anyhow::Result<()> {
     let text = fs::read(&rt, "stories.txt")?;
-    let mut rest = text.as_slice();
-    for _ in 0..MOST {
-        if rest.is_empty() {
-            return Ok(());
-        }
-        let line = line_of(rt.alloc(), rest)?;
-        rt.print(line)?;
-        rest = match cut_at(rest, b'\n') {
-            (_, Some(next)) => next,
-            (_, None) => return Ok(()),
-        };
+    for line in text.as_slice().split_inclusive(|byte| *byte == b'\n') {
+        rt.print(line_of(rt.alloc(), line)?)?;
     }
     Ok(())
 }

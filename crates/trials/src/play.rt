@@ -1,6 +1,6 @@
 // A story played, and written down.
-use crate::story::{Fault, Modes, Setting, call, read_setting};
-use anyhow::anyhow;
+use crate::story::{Modes, Setting, call, read_setting};
+use anyhow::{Context, Result, anyhow};
 use engine::Engine;
 use entries::{Line, Lines};
 use ledger::{Answer, Call};
@@ -9,23 +9,27 @@ use modes::gray::Gray;
 use modes::system::ModeSystem;
 use operations::Outcome;
 use shelf::{JoinedShelf, PackedShelf, Shelf, WordShelf};
-use std::alloc::{AllocError, Global};
+use std::alloc::Global;
+use std::fmt;
 use std::fmt::Write;
 
-// The most calls of one story.
-const MOST: u32 = 10000;
+// An answer as a story's line has it.
+#[derive(Clone, Copy)]
+struct Shown(Answer);
 
-fn write_answer(out: &mut String, answer: Answer) -> Result<(), AllocError> {
-    match answer {
-        Answer::Job(number) => write!(out, "job{number} "),
-        Answer::Told(Outcome::Figures(sum, count)) => write!(out, "read{sum}/{count} "),
-        Answer::Told(Outcome::Average(mean)) => write!(out, "mean{mean} "),
-        Answer::Told(Outcome::Done) => write!(out, "done "),
-        Answer::Waits => write!(out, "waits "),
-        Answer::Head(group, holders) => write!(out, "head{group}/{holders} "),
-        Answer::Refused(refusal) => {
-            let number = refusal.number();
-            write!(out, "refused{number} ")
+impl fmt::Display for Shown {
+    fn fmt<W: Write>(&self, f: &mut fmt::Formatter<W>) -> fmt::Result {
+        match self.0 {
+            Answer::Job(number) => write!(f, "job{number}"),
+            Answer::Told(Outcome::Figures(sum, count)) => write!(f, "read{sum}/{count}"),
+            Answer::Told(Outcome::Average(mean)) => write!(f, "mean{mean}"),
+            Answer::Told(Outcome::Done) => write!(f, "done"),
+            Answer::Waits => write!(f, "waits"),
+            Answer::Head(group, holders) => write!(f, "head{group}/{holders}"),
+            Answer::Refused(refusal) => {
+                let number = refusal.number();
+                write!(f, "refused{number}")
+            }
         }
     }
 }
@@ -35,26 +39,21 @@ fn play<M: ModeSystem + Drop, S: Shelf + Drop>(
     heap: Global,
     mut engine: Engine<M, S>,
     setting: &Setting,
-    mut calls: Line<'_>,
-) -> anyhow::Result<String> {
+    calls: Line<'_>,
+) -> Result<String> {
     let parents = setting.parents.as_slice();
     let words = setting.words.as_slice();
     let mut out = String::new(heap);
     let laid = engine.serve(Call::Lay(parents, words));
-    write_answer(&mut out, laid)?;
-    for _ in 0..MOST {
-        let Some(entry) = calls.next_entry() else {
-            break;
-        };
-        let Some(call) = call(entry, parents, words) else {
-            return Err(anyhow!("no such call"));
-        };
-        write_answer(&mut out, engine.serve(call))?;
+    write!(out, "{} ", Shown(laid))?;
+    for entry in calls {
+        let call = call(entry, parents, words).context("no such call")?;
+        write!(out, "{} ", Shown(engine.serve(call)))?;
     }
     out.push_str("end")?;
     if let Answer::Told(_) = laid {
-        for place in 0..parents.len() {
-            let word = engine.shelf().get(place).unwrap_or(0);
+        let shelf = engine.shelf();
+        for word in (0..parents.len()).map_while(|place| shelf.get(place)) {
             write!(out, " {word}")?;
         }
     }
@@ -63,13 +62,9 @@ fn play<M: ModeSystem + Drop, S: Shelf + Drop>(
 }
 
 // The story with which a text begins, on one shelf.
-fn on_shelf<S: Shelf + Drop>(heap: Global, text: &[u8], shelf: S) -> anyhow::Result<String> {
+fn on_shelf<S: Shelf + Drop>(heap: Global, text: &[u8], shelf: S) -> Result<String> {
     let mut line = Lines::new(text).next_line();
-    let setting = match read_setting(heap, &mut line) {
-        Ok(setting) => setting,
-        Err(Fault::Unreadable) => return Err(anyhow!("no such story")),
-        Err(Fault::Memory) => return Err(anyhow!("no memory")),
-    };
+    let setting = read_setting(heap, &mut line)?;
     match setting.modes {
         Modes::Gray => play(heap, Engine::new(Gray, shelf), &setting, line),
         Modes::Counting => play(heap, Engine::new(Counting, shelf), &setting, line),
@@ -77,7 +72,7 @@ fn on_shelf<S: Shelf + Drop>(heap: Global, text: &[u8], shelf: S) -> anyhow::Res
 }
 
 // The line that the first story of a text comes to, on all three shelves alike.
-pub fn line_of(heap: Global, text: &[u8]) -> anyhow::Result<String> {
+pub fn line_of(heap: Global, text: &[u8]) -> Result<String> {
     let on_words = on_shelf(heap, text, WordShelf::new(heap, 256)?)?;
     let on_bytes = on_shelf(heap, text, PackedShelf::new(heap, 256)?)?;
     let first = WordShelf::new(heap, 3)?;

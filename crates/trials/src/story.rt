@@ -1,10 +1,11 @@
 // A story read from its line.
+use anyhow::{Context, Result, anyhow};
 use entries::Line;
 use entries::cut::cut_at;
 use entries::number::number;
 use ledger::Call;
 use operations::{Action, Operation};
-use std::alloc::{AllocError, AllocFailed, Global};
+use std::alloc::Global;
 
 #[derive(Clone, Copy)]
 pub enum Modes {
@@ -20,52 +21,24 @@ pub struct Setting {
     pub words: Vec<u32>,
 }
 
-// Why a story is not played.
-#[derive(Clone, Copy, PartialEq, Eq, Debug)]
-pub enum Fault {
-    Unreadable,
-    Memory,
-}
-
-impl From<AllocError> for Fault {
-    fn from(_: AllocError) -> Fault {
-        Fault::Memory
-    }
-}
-
-impl<T: Drop> From<AllocFailed<T>> for Fault {
-    fn from(_: AllocFailed<T>) -> Fault {
-        Fault::Memory
-    }
-}
-
-fn numbers(heap: Global, line: &mut Line<'_>, count: u32) -> Result<Vec<u32>, Fault> {
+// The next entries of a line, as numbers.
+fn numbers(heap: Global, line: &mut Line<'_>, count: u32) -> Result<Vec<u32>> {
     let mut values = Vec::new(heap);
     for _ in 0..count {
-        let Some(entry) = line.next_entry() else {
-            return Err(Fault::Unreadable);
-        };
-        let Some(value) = number(entry) else {
-            return Err(Fault::Unreadable);
-        };
+        let value = line.next().and_then(number).context("no such story")?;
         values.push(value)?;
     }
     Ok(values)
 }
 
 // The beginning of a line, up to the calls.
-pub fn read_setting(heap: Global, line: &mut Line<'_>) -> Result<Setting, Fault> {
-    let modes = match line.next_entry() {
+pub fn read_setting(heap: Global, line: &mut Line<'_>) -> Result<Setting> {
+    let modes = match line.next() {
         Some([b'g']) => Modes::Gray,
         Some([b'n']) => Modes::Counting,
-        _ => return Err(Fault::Unreadable),
+        _ => return Err(anyhow!("no such story")),
     };
-    let Some(entry) = line.next_entry() else {
-        return Err(Fault::Unreadable);
-    };
-    let Some(granules) = number(entry) else {
-        return Err(Fault::Unreadable);
-    };
+    let granules = line.next().and_then(number).context("no such story")?;
     let parents = numbers(heap, line, granules)?;
     let words = numbers(heap, line, granules)?;
     Ok(Setting {
@@ -96,19 +69,14 @@ pub fn call<'a>(entry: &[u8], parents: &'a [u32], words: &'a [u32]) -> Option<Ca
     match entry {
         [b'l'] => Some(Call::Lay(parents, words)),
         [b'o'] => Some(Call::Open),
-        [letter, ..] => {
-            let rest = &entry[1..];
-            match *letter {
-                b'?' => Some(Call::Look(number(rest)?)),
-                b'g' => Some(Call::Go(number(rest)?)),
-                b'w' => Some(Call::Again(number(rest)?)),
-                b'c' => Some(Call::Commit(number(rest)?)),
-                b'x' => Some(Call::GiveUp(number(rest)?)),
-                letter => {
-                    let (job, operation) = operation(letter, rest)?;
-                    Some(Call::Carry(job, operation))
-                }
-            }
+        [b'?', granule @ ..] => Some(Call::Look(number(granule)?)),
+        [b'g', job @ ..] => Some(Call::Go(number(job)?)),
+        [b'w', job @ ..] => Some(Call::Again(number(job)?)),
+        [b'c', job @ ..] => Some(Call::Commit(number(job)?)),
+        [b'x', job @ ..] => Some(Call::GiveUp(number(job)?)),
+        [letter, rest @ ..] => {
+            let (job, operation) = operation(*letter, rest)?;
+            Some(Call::Carry(job, operation))
         }
         [] => None,
     }

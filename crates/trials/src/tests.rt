@@ -1,6 +1,6 @@
 // Answers, worked out from the rules.
+use engine::Engine;
 use engine::run::run;
-use engine::{Engine, Turn};
 use granules::Unfit;
 use ledger::{Answer, Call, Refusal};
 use modes::counting::Counting;
@@ -130,19 +130,19 @@ fn calls_with_results_of_their_own(rt: HostRuntime) -> Result<(), Fail> {
     engine.lay(&SIX, &FIRST)?;
     assert_eq!(rt; engine.open(), Ok(1));
     assert_eq!(rt; engine.open(), Ok(2));
-    assert_eq!(rt; engine.add(2, 3, 7), Ok(Turn::Through(())));
-    assert_eq!(rt; engine.add(1, 3, 5), Ok(Turn::Through(())));
+    assert_eq!(rt; engine.add(2, 3, 7), Ok(Some(())));
+    assert_eq!(rt; engine.add(1, 3, 5), Ok(Some(())));
     // N, code 5, twice on the record; IN, code 2, above
     assert_eq!(rt; engine.look(3), Ok((5, 2)));
     assert_eq!(rt; engine.look(1), Ok((2, 2)));
-    assert_eq!(rt; engine.read(2, 1), Ok(Turn::Stopped));
-    assert_eq!(rt; engine.go(2), Ok(Turn::Stopped));
+    assert_eq!(rt; engine.read(2, 1), Ok(None));
+    assert_eq!(rt; engine.go(2), Ok(None));
     // the older reads: the younger addition is taken back
-    assert_eq!(rt; engine.read(1, 1), Ok(Turn::Through((35, 2))));
-    assert_eq!(rt; engine.mean(1, 1), Ok(Turn::Through(18)));
+    assert_eq!(rt; engine.read(1, 1), Ok(Some((35, 2))));
+    assert_eq!(rt; engine.mean(1, 1), Ok(Some(18)));
     assert_eq!(rt; engine.commit(2), Err(Refusal::JobWounded));
     assert_eq!(rt; engine.again(2), Ok(()));
-    assert_eq!(rt; engine.set(2, 5, 1), Ok(Turn::Through(())));
+    assert_eq!(rt; engine.set(2, 5, 1), Ok(Some(())));
     assert_eq!(rt; engine.giveup(2), Ok(()));
     assert_eq!(rt; engine.commit(1), Ok(()));
     assert_eq!(rt; engine.look(0), Ok((0, 0)));
@@ -195,9 +195,9 @@ fn calls_that_are_refused(rt: HostRuntime) -> Result<(), Fail> {
     assert_eq!(rt; engine.go(1), Err(Refusal::JobNotWaiting));
     assert_eq!(rt; engine.again(1), Err(Refusal::JobNotWounded));
     // job 2 waits for job 1, and job 3 is wounded by it
-    assert_eq!(rt; engine.set(3, 5, 1), Ok(Turn::Through(())));
-    assert_eq!(rt; engine.set(1, 0, 1), Ok(Turn::Through(())));
-    assert_eq!(rt; engine.read(2, 4), Ok(Turn::Stopped));
+    assert_eq!(rt; engine.set(3, 5, 1), Ok(Some(())));
+    assert_eq!(rt; engine.set(1, 0, 1), Ok(Some(())));
+    assert_eq!(rt; engine.read(2, 4), Ok(None));
     assert_eq!(rt; engine.read(2, 6), Err(Refusal::JobWaiting));
     assert_eq!(rt; engine.commit(2), Err(Refusal::JobWaiting));
     assert_eq!(rt; engine.again(2), Err(Refusal::JobNotWounded));
@@ -206,7 +206,7 @@ fn calls_that_are_refused(rt: HostRuntime) -> Result<(), Fail> {
     assert_eq!(rt; engine.commit(3), Err(Refusal::JobWounded));
     assert_eq!(rt; engine.commit(1), Ok(()));
     assert_eq!(rt; engine.giveup(1), Err(Refusal::NoSuchJob));
-    assert_eq!(rt; engine.go(2), Ok(Turn::Through(Outcome::Figures(1, 1))));
+    assert_eq!(rt; engine.go(2), Ok(Some(Outcome::Figures(1, 1))));
     Ok(())
 }
 

@@ -3,7 +3,7 @@ use Rattle.entries.specs.Lines.{remains}
 use Rattle.alone.specs.declared.denied.Denied.TheVariants.{Entry}
 use Rattle.alone.specs.Inputs.{spent, next}
 use Rattle.alone.proofs.Readings.{goes_on, stops, ends, kept, passed}
-use Rattle.alone.proofs.input.entries.Goals as goal
+use Rattle.alone.proofs.input.all_of.Goals as goal
 
 pub returns-in_err-value : goal.returns-in_err-value
 returns-in_err-value g c =

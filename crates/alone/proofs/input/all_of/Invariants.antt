@@ -1,7 +1,7 @@
 use Rattle.std.proofs.Common.{◌≡◌, ℕ, List, Option, vec_items}
 use Rattle.entries.specs.Lines.{remains}
 use Rattle.alone.proofs.Readings.{Left}
-use Rattle.alone.proofs.input.entries.Given as goal
+use Rattle.alone.proofs.input.all_of.Given as goal
 
 abbrev pub invariant-loop-i : goal.invariant-loop-i
 invariant-loop-i g l =
