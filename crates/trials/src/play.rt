@@ -13,6 +13,9 @@ use std::alloc::Global;
 use std::fmt;
 use std::fmt::Write;
 
+// The most calls of one story.
+const MOST: usize = 10000;
+
 // An answer as a story's line has it.
 #[derive(Clone, Copy)]
 struct Shown(Answer);
@@ -46,7 +49,7 @@ fn play<M: ModeSystem + Drop, S: Shelf + Drop>(
     let mut out = String::new(heap);
     let laid = engine.serve(Call::Lay(parents, words));
     write!(out, "{} ", Shown(laid))?;
-    for entry in calls {
+    for entry in calls.take(MOST) {
         let call = call(entry, parents, words).context("no such call")?;
         write!(out, "{} ", Shown(engine.serve(call)))?;
     }
