@@ -45,4 +45,3 @@ returns-2 c =
           done c.args.self.now.modes.rows c.loop-granule.self c.release.new.self c.args.seat c.loop-granule.granule (omega (arith, c.loop-granule-test.true))
           c.release.ensures.rows inv.0 inv.1 (omega arith);
     }
-

@@ -60,4 +60,3 @@ returns-2 g c =
       held = c.take_back_at.ensures.held ∙ inv.2;
       noted = c.take_back_at.ensures.noted ∙ inv.3;
     }
-
