@@ -1,13 +1,13 @@
 -- A whole text, line by line.
-use Rattle.std.proofs.Common.{◌≡◌, ℕ, eqb, List, length, IsErrAnd, Err, vec_items, Result, sym, refl, ap, subst}
-use Rattle.std.specs.declared.alloc.Global.{Global}
-use Rattle.entries.specs.Numbers.{numeral}
+use Rattle.std.proofs.Common.{◌≡◌, ℕ, List, IsErrAnd, Err, Result, refl, ap, ap₂}
+use Rattle.std.specs.Option.{option_map}
+use Rattle.entries.specs.declared.line.Line.{Line}
+use Rattle.entries.specs.Lines.{remains}
 use Rattle.entries.specs.Cuts.{Remains, line, lines_after}
 use Rattle.alone.specs.declared.denied.Denied.{Denied}
 use Rattle.alone.specs.declared.denied.Denied.TheVariants.{Entry, Table, Memory}
-use Rattle.alone.specs.declared.input.Work.{Work}
 use Rattle.alone.proofs.Readings.{passed}
-use Rattle.alone.specs.Inputs.{ReadAs, Reading, good, and_then, closed, sizes, all_of, operation_in, read_lines, reading, Input, input_of}
+use Rattle.alone.specs.Inputs.{ReadAs, Reading, and_then, read_lines, reading}
 
 -- a text is its four lines and what follows them
 lines_of :
@@ -24,11 +24,10 @@ pub text_of :
     → read_lines first second third fourth e ≡ reading text
 text_of text at f ab s bc t cd r de = let all = lines_of text in cc
 
--- after a good part the next decides
-pub then_next :
-    {A B C : Type 0} (view : C → B) (part : Reading A) (x : A) (next : A → Reading B) (r : Result C Denied)
-    → part ≡ good x → ReadAs view (next x) r → ReadAs view (and_then part next) r
-then_next view part x next r h rest = subst (λ p. ReadAs view (and_then p next) r) (sym h) rest
+-- a line that was read is the line with which the text began
+pub line_by :
+    (l : Line) (t : List ℕ) → option_map (λ x. x.now) l.rest ≡ (line t).bytes → l.whole ≡ (line t).whole → remains l ≡ line t
+line_by l t bytes whole = ap₂ (λ b w. record { bytes = b; whole = w }) bytes whole
 
 -- a bad part makes the whole bad
 pub bad_part :
@@ -37,47 +36,3 @@ pub bad_part :
 bad_part part_view view part next (Entry l e) r h p = passed view _ (Entry l e) r h (ap (λ q. and_then q next) p)
 bad_part part_view view part next (Table unfit) r h p = absurd p
 bad_part part_view view part next Memory r h p = passed view _ Memory r h tt
-
--- each of the four lines may be bad
-pub first_bad :
-    (a b c d : Remains) (more : List ℕ) (y : Denied) (r : Result Work Denied) → IsErrAnd r (λ e. e ≡ y) → ReadAs (λ n. n) (sizes a) (Err y)
-    → ReadAs input_of (read_lines a b c d more) r
-unfolding read_lines
-first_bad a b c d more y r h p = bad_part (λ n. n) input_of (sizes a) _ y r h p
-
-pub second_bad :
-    (a b c d : Remains) (more : List ℕ) (n s : ℕ) (y : Denied) (r : Result Work Denied) → sizes a ≡ good (n, s) → IsErrAnd r (λ e. e ≡ y)
-    → ReadAs (vec_items {Z = Global}) (all_of numeral 2 1 n b) (Err y) → ReadAs input_of (read_lines a b c d more) r
-unfolding read_lines
-second_bad a b c d more n s y r p h q =
-    then_next input_of (sizes a) (n, s) _ r p
-    (bad_part (vec_items {Z = Global}) input_of (all_of numeral 2 1 n b) _ y r h q)
-
-pub third_bad :
-    (a b c d : Remains) (more : List ℕ) (n s : ℕ) (ps : List ℕ) (y : Denied) (r : Result Work Denied) → sizes a ≡ good (n, s)
-    → all_of numeral 2 1 n b ≡ good ps → IsErrAnd r (λ e. e ≡ y) → ReadAs (vec_items {Z = Global}) (all_of numeral 3 1 n c) (Err y)
-    → ReadAs input_of (read_lines a b c d more) r
-unfolding read_lines
-third_bad a b c d more n s ps y r p q h w =
-    then_next input_of (sizes a) (n, s) _ r p
-    (then_next input_of (all_of numeral 2 1 n b) ps _ r q
-    (bad_part (vec_items {Z = Global}) input_of (all_of numeral 3 1 n c) _ y r h w))
-
-pub fourth_bad :
-    (a b c d : Remains) (more : List ℕ) (n s : ℕ) (ps ws : List ℕ) (y : Denied) (r : Result Work Denied) → sizes a ≡ good (n, s)
-    → all_of numeral 2 1 n b ≡ good ps → all_of numeral 3 1 n c ≡ good ws → IsErrAnd r (λ e. e ≡ y)
-    → ReadAs (vec_items {Z = Global}) (all_of (operation_in n) 4 1 s d) (Err y) → ReadAs input_of (read_lines a b c d more) r
-unfolding read_lines
-fourth_bad a b c d more n s ps ws y r p q w h o =
-    then_next input_of (sizes a) (n, s) _ r p
-    (then_next input_of (all_of numeral 2 1 n b) ps _ r q
-    (then_next input_of (all_of numeral 3 1 n c) ws _ r w
-    (bad_part (vec_items {Z = Global}) input_of (all_of (operation_in n) 4 1 s d) _ y r h o)))
-
--- where all four are good, what follows decides
-pub all_good :
-    (a b c d : Remains) (more : List ℕ) (n s : ℕ) (i : Input) → sizes a ≡ good (n, s)
-    → all_of numeral 2 1 n b ≡ good i.parents → all_of numeral 3 1 n c ≡ good i.words
-    → all_of (operation_in n) 4 1 s d ≡ good i.operations → read_lines a b c d more ≡ closed 5 1 (eqb (length more) 0) i
-unfolding read_lines
-all_good a b c d more n s i p q w o = rw (p, q, w, o)

@@ -45,10 +45,7 @@ impl fmt::Display for Denied {
     fn fmt<W: Write>(&self, f: &mut fmt::Formatter<W>) -> fmt::Result {
         match self {
             Denied::Entry(line, entry) => write!(f, "bad line {line} entry {entry}"),
-            Denied::Table(unfit) => {
-                let number = unfit.number();
-                write!(f, "refused {number}")
-            }
+            Denied::Table(unfit) => write!(f, "refused {}", unfit.number()),
             Denied::Memory => write!(f, "out of memory"),
         }
     }

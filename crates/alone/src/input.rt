@@ -1,9 +1,8 @@
 // Reading the input, entry by entry.
-ghost use Rattle.std.specs.Prelude.{◌≡◌, ◌≤◌, length, IfOk, vec_items, ◌==◌};
+ghost use Rattle.std.specs.Prelude.{◌≡◌, ◌≤◌, IfOk, vec_items};
 ghost use Rattle.std.specs.Option.{option_map};
-ghost use Rattle.entries.specs.Cuts.{line as line_of, lines_after};
 ghost use Rattle.entries.specs.Lines.{remains};
-ghost use Rattle.alone.specs.Inputs.{ReadAs, closed, within, sizes, all_of, reading, input_of};
+ghost use Rattle.alone.specs.Inputs.{ReadAs, within, sizes, all_of, read_lines, reading, input_of};
 ghost use Rattle.alone.specs.Inputs.{action_of, granule_in, lettered, operation_in};
 
 use crate::denied::Denied;
@@ -109,22 +108,29 @@ fn operation(entry: &[u8], granules: u32) -> Option<Operation>
     }
 }
 
-// The next line of a text.
-fn next_line<'a>(lines: &mut Lines<'a>) -> Line<'a>
-    ensures value { remains result ≡ line_of lines.old.rest.now }
-    ensures after { lines.new.rest.now ≡ lines_after lines.old.rest.now }
+// The four lines, and what follows them. What does is a bad entry 1 of line 5.
+fn read_lines(
+    heap: Global,
+    first: Line<'_>,
+    second: Line<'_>,
+    third: Line<'_>,
+    fourth: Line<'_>,
+    lines: &Lines<'_>,
+) -> Result<Work, Denied>
+    ensures value { ReadAs input_of (read_lines (remains first.entry) (remains second.entry) (remains third.entry) (remains fourth.entry) lines.now.rest.now) result }
 {
-    lines.next_line()
-}
-
-// What was read, if nothing follows it. What does is a bad entry 1 of line 5.
-fn ended(lines: &Lines<'_>, work: Work) -> Result<Work, Denied>
-    ensures value { ReadAs input_of (closed 5 1 (length lines.now.rest.now == 0) (input_of work)) result }
-{
+    let (granules, count) = sizes(first)?;
+    let parents = all_of(heap, second, 2, granules, number)?;
+    let words = all_of(heap, third, 3, granules, number)?;
+    let operations = all_of(heap, fourth, 4, count, |entry| operation(entry, granules))?;
     if !lines.is_spent() {
         return Err(Denied::Entry(5, 1));
     }
-    Ok(work)
+    Ok(Work {
+        parents,
+        words,
+        operations,
+    })
 }
 
 // The whole input.
@@ -132,20 +138,9 @@ pub fn read(heap: Global, text: &[u8]) -> Result<Work, Denied>
     ensures value { ReadAs input_of (reading text.now) result }
 {
     let mut lines = Lines::new(text);
-    let (granules, count) = sizes(next_line(&mut lines))?;
-    let parents = all_of(heap, next_line(&mut lines), 2, granules, number)?;
-    let words = all_of(heap, next_line(&mut lines), 3, granules, number)?;
-    let operations = all_of(
-        heap,
-        next_line(&mut lines),
-        4,
-        count,
-        |entry| operation(entry, granules),
-    )?;
-    let work = Work {
-        parents,
-        words,
-        operations,
-    };
-    ended(&lines, work)
+    let first = lines.next_line();
+    let second = lines.next_line();
+    let third = lines.next_line();
+    let fourth = lines.next_line();
+    read_lines(heap, first, second, third, fourth, &lines)
 }

@@ -29,10 +29,7 @@ impl fmt::Display for Shown {
             Answer::Told(Outcome::Done) => write!(f, "done"),
             Answer::Waits => write!(f, "waits"),
             Answer::Head(group, holders) => write!(f, "head{group}/{holders}"),
-            Answer::Refused(refusal) => {
-                let number = refusal.number();
-                write!(f, "refused{number}")
-            }
+            Answer::Refused(refusal) => write!(f, "refused{}", refusal.number()),
         }
     }
 }

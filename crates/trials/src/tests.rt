@@ -94,10 +94,7 @@ fn plays<M: ModeSystem + Drop, S: Shelf + Drop>(
     let calls = story();
     let finished = run(heap, system, shelf, &SIX, &FIRST, &calls)?;
     let given = finished.answers?;
-    assert_eq!(rt; given.len(), answers.len());
-    for (found, wanted) in given.iter().zip(answers) {
-        assert_eq!(rt; *found, *wanted);
-    }
+    assert_eq!(rt; given.as_slice(), answers);
     let end = finished.engine.shelf();
     assert_eq!(rt; end.get(3), Some(22));
     assert_eq!(rt; end.get(4), Some(20));
