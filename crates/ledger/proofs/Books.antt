@@ -3,17 +3,15 @@
 use Rattle.std.proofs.Common.{◌≡◌, ℕ, suc, ◌+◌, ◌%◌, ◌<◌, ◌≤◌, Bool, true, false, ◌&&◌, ◌||◌, List, [], ◌∷◌, ◌++◌, length, get_or, sym, refl, ap, ◌∙◌, subst, inl, inr, append_assoc, append-nil, arith}
 use mathlib.Core.Path.{fun_ext}
 use Rattle.std.specs.List.{AllByRecursion}
+use Rattle.std.proofs.lemmas.Bool.Decides.{nat_tests}
 use Rattle.std.proofs.lemmas.List.{ext_get_or, get_or_past}
-use Rattle.std.proofs.lemmas.Bool.{cases_eq, cases_lt, cases_Bool, and_parts, or_cases, or_left, or_right, and_from, both_ways}
-use Rattle.modes.specs.declared.kind.Kind.{Kind}
-use Rattle.modes.specs.declared.kind.Kind.TheVariants.{Set as Setting, Read as Reading, Add as Adding}
-use Rattle.modes.specs.Kinds.{commutes}
+use Rattle.std.proofs.lemmas.Bool.{cases_eq, cases_lt, cases_Bool, or_left, and_from, both_ways}
 use Rattle.shelf.specs.Words.{Fit}
 use Rattle.granules.specs.Paths.{record_beneath}
 use Rattle.operations.specs.declared.operation.Action.{Action}
 use Rattle.operations.specs.declared.operation.Action.TheVariants.{Read, Mean, Set, Add}
 use Rattle.operations.specs.declared.operation.Operation.{Operation}
-use Rattle.operations.specs.Actions.{kind, changed}
+use Rattle.operations.specs.Actions.{changed}
 use Rattle.operations.specs.Words.{answer, after, left_at}
 use Rattle.operations.specs.Alone.{Step, Alone}
 use Rattle.operations.proofs.Places.{length_each, get_or_each}
@@ -23,7 +21,7 @@ use Rattle.ledger.specs.Jobs.{put}
 use Rattle.ledger.specs.Models.{Note, nothing, added, put_back, back, noted, noted_add, taken_back}
 use Rattle.ledger.proofs.Swaps.{left_in, left_out, length_after, word_after}
 use Rattle.ledger.proofs.Runs.{effect, split, join, same_end, alike_after, effect_++, run_length, run_at, apart_one, apart_push, apart_sym}
-use Rattle.ledger.proofs.Piles.{put_same, put_at, put_other, pile, pile_ext, Pairwise, pairwise_clear, last, first}
+use Rattle.ledger.proofs.Piles.{put_same, put_at, put_other, put_cases, pile, pile_ext, Pairwise, pairwise_clear, last, first}
 
 -- a step that sets a record
 abbrev pub is_set : Action → Bool
@@ -37,34 +35,18 @@ sets_at ps r [] = false
 sets_at ps r (s ∷ ss) = (is_set s.0.action && record_beneath ps s.0.granule r) || sets_at ps r ss
 
 pub sets_left : (ps : List ℕ) (r : ℕ) (xs ys : List Step) → sets_at ps r xs ≡ true → sets_at ps r (xs ++ ys) ≡ true
-sets_left ps r [] ys e = absurd (both_ways false refl e)
-sets_left ps r (x ∷ xs) ys e =
-    elim (or_cases (is_set x.0.action && record_beneath ps x.0.granule r) (sets_at ps r xs) e) [
-      | inl a ↦ or_left (is_set x.0.action && record_beneath ps x.0.granule r) (sets_at ps r (xs ++ ys)) a
-      | inr a ↦ or_right (is_set x.0.action && record_beneath ps x.0.granule r) (sets_at ps r (xs ++ ys)) (sets_left ps r xs ys a)
-    ]
+sets_left ps r [] ys e = cc
+sets_left ps r (x ∷ xs) ys e = grind (arith, nat_tests, sets_left ps r xs ys)
 
 pub sets_right : (ps : List ℕ) (r : ℕ) (xs ys : List Step) → sets_at ps r ys ≡ true → sets_at ps r (xs ++ ys) ≡ true
 sets_right ps r [] ys e = e
-sets_right ps r (x ∷ xs) ys e =
-    or_right (is_set x.0.action && record_beneath ps x.0.granule r) (sets_at ps r (xs ++ ys)) (sets_right ps r xs ys e)
-
--- An operation carried out leaves each word within 32 bits.
-changed_fits : (a : Action) (w : ℕ) → w < 4294967296 → changed a w < 4294967296
-changed_fits Read w h = h
-changed_fits Mean w h = h
-changed_fits (Set n) w h = omega arith
-changed_fits (Add n) w h = omega arith
+sets_right ps r (x ∷ xs) ys e = grind (arith, nat_tests, sets_right ps r xs ys)
 
 module _ (ps : List ℕ) where
+  -- An operation carried out leaves each word within 32 bits.
   effect_fits : (ss : List Step) (r w : ℕ) → w < 4294967296 → effect ps ss r w < 4294967296
   effect_fits [] r w h = h
-  effect_fits (s ∷ ss) r w h =
-      effect_fits ss r (left_at ps s.0 r w)
-      (elim (cases_Bool (record_beneath ps s.0.granule r)) [
-        | inl e ↦ subst (λ (x : ℕ). x < 4294967296) (sym (left_in ps s.0 r w e)) (changed_fits s.0.action w h)
-        | inr e ↦ subst (λ (x : ℕ). x < 4294967296) (sym (left_out ps s.0 r w e)) h
-      ])
+  effect_fits (s ∷ ss) r w h = effect_fits ss r (left_at ps s.0 r w) (grind (arith, nat_tests))
 
   pub run_fits : (ss : List Step) (ws out : List ℕ) → Fit ws → Alone ps ws ss out → Fit out
   run_fits ss ws out f a r =
@@ -73,36 +55,12 @@ module _ (ps : List ℕ) where
         | inr l ↦ omega (arith, get_or_past out r 0 (omega (arith, run_length ps ss ws out a)))
       ]
 
-  -- nothing commutes with a set
-  set_alone : (k : Kind) → commutes Setting k ≡ true → ⊥
-  set_alone Reading e = both_ways false refl e
-  set_alone Setting e = both_ways false refl e
-  set_alone Adding e = both_ways false refl e
-
-  set_kind : (a : Action) → is_set a ≡ true → kind a ≡ Setting
-  set_kind Read e = absurd (both_ways false refl e)
-  set_kind Mean e = absurd (both_ways false refl e)
-  set_kind (Set w) e = refl
-  set_kind (Add w) e = absurd (both_ways false refl e)
-
   -- where one job has set, an operation that is apart from it does not reach
   pub set_shuts :
       (ss : List Step) (r : ℕ) (o : Operation) → sets_at ps r ss ≡ true → AllByRecursion (λ s. Apart ps s.0 o) ss
       → record_beneath ps o.granule r ≡ false
-  set_shuts [] r o e h = absurd (both_ways false refl e)
-  set_shuts (s ∷ ss) r o e h =
-      elim (or_cases (is_set s.0.action && record_beneath ps s.0.granule r) (sets_at ps r ss) e) [
-        | inl a ↦
-            let p = and_parts (is_set s.0.action) (record_beneath ps s.0.granule r) a in
-            elim (cases_Bool (record_beneath ps o.granule r)) [
-              | inl b ↦
-                  absurd
-                  (set_alone (kind o.action)
-                  (ap (λ (k : Kind). commutes k (kind o.action)) (sym (set_kind s.0.action p.0)) ∙ h.0 r p.1 b))
-              | inr b ↦ b
-            ]
-        | inr a ↦ set_shuts ss r o a h.1
-      ]
+  set_shuts [] r o e h = cc
+  set_shuts (s ∷ ss) r o e h = grind (arith, nat_tests, h.0 r, set_shuts ss r o)
 
   -- nor does a list of them
   pub set_shuts_all :
@@ -132,21 +90,7 @@ pub record Good (ps start : List ℕ) (done : List Step) (live : ℕ → List St
   pub right : (k r : ℕ) → r < length ws → RightNote ps start done live n k r (notes k r)
 
 put_put : (j k : ℕ) (f : ℕ → List Step) (i : ℕ) → put j [] (put k [] f) i ≡ put k [] (put j [] f) i
-put_put j k f i =
-    elim (cases_eq i j) [
-      | inl a ↦
-          put_at j [] (put k [] f) i a
-          ∙ elim (cases_eq i k) [
-            | inl b ↦ sym (put_at k [] (put j [] f) i b)
-            | inr b ↦ sym (put_other k [] (put j [] f) i b ∙ put_at j [] f i a)
-          ]
-      | inr a ↦
-          put_other j [] (put k [] f) i a
-          ∙ elim (cases_eq i k) [
-            | inl b ↦ put_at k [] f i b ∙ sym (put_at k [] (put j [] f) i b)
-            | inr b ↦ put_other k [] f i b ∙ sym (put_other k [] (put j [] f) i b ∙ put_other j [] f i a)
-          ]
-    ]
+put_put j k f i = grind (arith, nat_tests)
 
 module _ (ps start : List ℕ) (fits : Fit start) where
   -- the run with one job last: what the others leave, and what it does to that
@@ -156,13 +100,8 @@ module _ (ps start : List ℕ) (fits : Fit start) where
       → (mid : List ℕ) × Alone ps start (done ++ pile (put k [] live) n) mid × Alone ps mid (live k) ws
   apart_from done live n ws h a k l =
       let g = put k [] live in
-      let b = subst (λ (xs : List Step). Alone ps start (done ++ xs) ws) (sym (append-nil (pile live n))) a in
-      let c = alike_after ps done (pile live n ++ []) (pile g n ++ (live k ++ [])) (last ps live h k n l []).0 start ws b in
-      let d : Alone ps start ((done ++ pile g n) ++ live k) ws =
-      subst (λ (xs : List Step). Alone ps start xs ws)
-      (ap (λ (xs : List Step). done ++ (pile g n ++ xs)) (append-nil (live k)) ∙ sym (append_assoc done (pile g n) (live k))) c
-      in
-      split ps (done ++ pile g n) (live k) start ws d
+      let moved = alike_after ps done (pile live n) (pile g n ++ live k) (last ps live h k n l).0 start ws a in
+      split ps (done ++ pile g n) (live k) start ws (rw append_assoc moved)
 
   -- and back again
   together :
@@ -170,36 +109,21 @@ module _ (ps start : List ℕ) (fits : Fit start) where
       → Alone ps start (done ++ pile (put k [] live) n) mid → Alone ps mid (live k) ws → Alone ps start (done ++ pile live n) ws
   together done live n mid ws h k l a b =
       let g = put k [] live in
-      let c = join ps (done ++ pile g n) (live k) start mid ws a b in
-      let d : Alone ps start (done ++ (pile g n ++ (live k ++ []))) ws =
-      subst (λ (xs : List Step). Alone ps start xs ws)
-      (append_assoc done (pile g n) (live k) ∙ ap (λ (xs : List Step). done ++ (pile g n ++ xs)) (sym (append-nil (live k)))) c
-      in
-      subst (λ (xs : List Step). Alone ps start (done ++ xs) ws) (append-nil (pile live n))
-      (alike_after ps done (pile g n ++ (live k ++ [])) (pile live n ++ []) (last ps live h k n l []).1 start ws d)
+      alike_after ps done (pile g n ++ live k) (pile live n) (last ps live h k n l).1 start ws
+      (rw append_assoc at (join ps (done ++ pile g n) (live k) start mid ws a b))
 
   -- the run with one job's steps before those of the others, and back again
   to_front :
       (done : List Step) (live : ℕ → List Step) (n : ℕ) (ws : List ℕ) → Pairwise ps live → (k : ℕ) → k < n
       → Alone ps start (done ++ pile live n) ws → Alone ps start ((done ++ live k) ++ pile (put k [] live) n) ws
   to_front done live n ws h k l a =
-      let g = put k [] live in
-      let b = subst (λ (xs : List Step). Alone ps start (done ++ xs) ws) (sym (append-nil (pile live n))) a in
-      subst (λ (xs : List Step). Alone ps start xs ws)
-      (ap (λ (xs : List Step). done ++ (live k ++ xs)) (append-nil (pile g n)) ∙ sym (append_assoc done (live k) (pile g n)))
-      (alike_after ps done (pile live n ++ []) (live k ++ (pile g n ++ [])) (first ps live h k n l []).0 start ws b)
+      rw append_assoc (alike_after ps done (pile live n) (live k ++ pile (put k [] live) n) (first ps live h k n l).0 start ws a)
 
   from_front :
       (done : List Step) (live : ℕ → List Step) (n : ℕ) (ws : List ℕ) → Pairwise ps live → (k : ℕ) → k < n
       → Alone ps start ((done ++ live k) ++ pile (put k [] live) n) ws → Alone ps start (done ++ pile live n) ws
   from_front done live n ws h k l a =
-      let g = put k [] live in
-      let b : Alone ps start (done ++ (live k ++ (pile g n ++ []))) ws =
-      subst (λ (xs : List Step). Alone ps start xs ws)
-      (append_assoc done (live k) (pile g n) ∙ ap (λ (xs : List Step). done ++ (live k ++ xs)) (sym (append-nil (pile g n)))) a
-      in
-      subst (λ (xs : List Step). Alone ps start (done ++ xs) ws) (append-nil (pile live n))
-      (alike_after ps done (live k ++ (pile g n ++ [])) (pile live n ++ []) (first ps live h k n l []).1 start ws b)
+      alike_after ps done (live k ++ pile (put k [] live) n) (pile live n) (first ps live h k n l).1 start ws (rw append_assoc at a)
 
   -- a right note gives back the word of the others
   back_right :
@@ -277,39 +201,28 @@ module _ (ps start : List ℕ) (fits : Fit start) where
           serial = without done live n ws notes good k l;
           right =
               λ j r h.
-              elim (cases_eq j k) [
-                | inl e ↦
-                    subst (λ (x : ℕ → Note). RightNote ps start done g n j r (x r)) (sym (put_at k (λ _. nothing) notes j e))
-                    (blank_note done g n j r (put_at k [] live j e))
-                | inr e ↦
-                    subst (λ (x : ℕ → Note). RightNote ps start done g n j r (x r)) (sym (put_other k (λ _. nothing) notes j e))
-                    (carry_over done done live g n n j r (notes j r) (put_other k [] live j e)
-                    (λ mid set a.
-                    let f = put j [] live in
-                    let p = apart_from done live n ws good.pairwise good.serial j (inside j r set) in
-                    let q = apart_from done f n p.0 (pairwise_clear ps live good.pairwise j) p.1 k l in
-                    let here : f k ≡ live k = put_other j [] live k (λ (z : k ≡ j). e (sym z)) in
-                    let again : pile (put j [] g) n ≡ pile (put k [] f) n = pile_ext (put j [] g) (put k [] f) n (λ i _. put_put j k live i) in
-                    let ends : q.0 ≡ mid =
-                    same_end ps (done ++ pile (put k [] f) n) start q.0 mid q.1
-                    (subst (λ (xs : List Step). Alone ps start (done ++ xs) mid) again a)
-                    in
-                    let len : r < length q.0 =
-                    omega (
-                      arith,
-                      run_length ps (f k) q.0 p.0 q.2,
-                      run_length ps (live j) p.0 ws p.2,
-                    )
-                    in (
-                      p.0,
-                      p.1,
-                      run_at ps (f k) q.0 p.0 q.2 r len
-                          ∙ ap (λ (xs : List Step). effect ps xs r (get_or q.0 r 0)) here
-                          ∙ set_shuts_all ps (live j) (live k) r set (good.pairwise k j (λ (z : k ≡ j). e (sym z))) (get_or q.0 r 0)
-                          ∙ ap (λ (xs : List ℕ). get_or xs r 0) ends,
-                    ))
-                    (good.right j r (omega arith)))
-              ];
+              put_cases (λ x. RightNote ps start done g n j r (x r)) k (λ _. nothing) notes j
+              (λ e. blank_note done g n j r (put_at k [] live j e))
+              (λ e.
+              carry_over done done live g n n j r (notes j r) (put_other k [] live j e)
+              (λ mid set a.
+              let f = put j [] live in
+              let p = apart_from done live n ws good.pairwise good.serial j (inside j r set) in
+              let q = apart_from done f n p.0 (pairwise_clear ps live good.pairwise j) p.1 k l in
+              let here : f k ≡ live k = put_other j [] live k (λ (z : k ≡ j). e (sym z)) in
+              let again : pile (put j [] g) n ≡ pile (put k [] f) n = pile_ext (put j [] g) (put k [] f) n (λ i _. put_put j k live i) in
+              let ends : q.0 ≡ mid =
+              same_end ps (done ++ pile (put k [] f) n) start q.0 mid q.1 (rw (← again) a)
+              in
+              let len : r < length q.0 = omega (arith, run_length ps (f k) q.0 p.0 q.2, run_length ps (live j) p.0 ws p.2) in (
+                p.0,
+                p.1,
+                run_at ps (f k) q.0 p.0 q.2 r len
+                    ∙ ap (λ (xs : List Step). effect ps xs r (get_or q.0 r 0)) here
+                    ∙ set_shuts_all ps (live j) (live k) r set (good.pairwise k j (λ (z : k ≡ j). e (sym z))) (get_or q.0 r 0)
+                    ∙ ap (λ (xs : List ℕ). get_or xs r 0) ends,
+              ))
+              (good.right j r (omega arith)));
         }
 
     -- A job that commits: its steps go to the end of those done.
@@ -323,25 +236,19 @@ module _ (ps start : List ℕ) (fits : Fit start) where
           serial = to_front done live n ws good.pairwise k l good.serial;
           right =
               λ j r h.
-              elim (cases_eq j k) [
-                | inl e ↦
-                    subst (λ (x : ℕ → Note). RightNote ps start (done ++ live k) g n j r (x r)) (sym (put_at k (λ _. nothing) notes j e))
-                    (blank_note (done ++ live k) g n j r (put_at k [] live j e))
-                | inr e ↦
-                    subst (λ (x : ℕ → Note). RightNote ps start (done ++ live k) g n j r (x r)) (sym (put_other k (λ _. nothing) notes j e))
-                    (carry_over done (done ++ live k) live g n n j r (notes j r) (put_other k [] live j e)
-                    (λ mid set a.
-                    let f = put j [] live in
-                    let here : f k ≡ live k = put_other j [] live k (λ (z : k ≡ j). e (sym z)) in
-                    let again : pile (put j [] g) n ≡ pile (put k [] f) n = pile_ext (put j [] g) (put k [] f) n (λ i _. put_put j k live i) in (
-                      mid,
-                      from_front done f n mid (pairwise_clear ps live good.pairwise j) k l
-                          (subst (λ (xs : List Step). Alone ps start ((done ++ xs) ++ pile (put k [] f) n) mid) (sym here)
-                          (subst (λ (xs : List Step). Alone ps start ((done ++ live k) ++ xs) mid) again a)),
-                      refl,
-                    ))
-                    (good.right j r h))
-              ];
+              put_cases (λ x. RightNote ps start (done ++ live k) g n j r (x r)) k (λ _. nothing) notes j
+              (λ e. blank_note (done ++ live k) g n j r (put_at k [] live j e))
+              (λ e.
+              carry_over done (done ++ live k) live g n n j r (notes j r) (put_other k [] live j e)
+              (λ mid set a.
+              let f = put j [] live in
+              let here : f k ≡ live k = put_other j [] live k (λ (z : k ≡ j). e (sym z)) in
+              let again : pile (put j [] g) n ≡ pile (put k [] f) n = pile_ext (put j [] g) (put k [] f) n (λ i _. put_put j k live i) in (
+                mid,
+                from_front done f n mid (pairwise_clear ps live good.pairwise j) k l (rw (here, ← again) a),
+                refl,
+              ))
+              (good.right j r h));
         }
 
     -- One number more, which has no steps.

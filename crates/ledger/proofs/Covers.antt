@@ -1,7 +1,8 @@
 -- Jobs whose modes stand together, and that cover what they did, do not collide.
-use Rattle.std.proofs.Common.{◌≡◌, ℕ, Bool, true, false, ◌&&◌, eqb, List, [], ◌∷◌, ◌++◌, sym, refl, ap, ◌∙◌, subst, inl, inr, append_assoc, append-nil}
+use Rattle.std.proofs.Common.{◌≡◌, ℕ, true, eqb, List, [], ◌∷◌, ◌++◌, sym, ap, ◌∙◌, subst, inl, inr, append_assoc, append-nil, arith}
 use Rattle.std.specs.List.{AllByRecursion}
-use Rattle.std.proofs.lemmas.Bool.{and_parts, and_from, or_cases, or_left, or_right, both_ways, eqb-true}
+use Rattle.std.proofs.lemmas.Bool.Decides.{nat_tests}
+use Rattle.std.proofs.lemmas.Bool.{and_parts, or_cases, eqb-true}
 use Rattle.modes.specs.declared.kind.Kind.{Kind}
 use Rattle.modes.specs.Kinds.{commutes}
 use Rattle.modes.specs.Systems.{System, Lawful}
@@ -31,34 +32,15 @@ front ps f g =
 
 -- What is covered along a front is covered further down.
 pub covered_front : (s : System) (m : ℕ → ℕ) (k : Kind) (xs ys : List ℕ) → covered s m k xs ≡ true → covered s m k (xs ++ ys) ≡ true
-covered_front s m k [] ys e = absurd (both_ways false refl e)
-covered_front s m k (x ∷ xs) ys e =
-    let f = has s (m x) (s.full k) in
-    let i = has s (m x) (s.intent k) in
-    elim (or_cases f (i && covered s m k xs) e) [
-      | inl a ↦ or_left f (i && covered s m k (xs ++ ys)) a
-      | inr b ↦
-          let p = and_parts i (covered s m k xs) b in
-          or_right f (i && covered s m k (xs ++ ys)) (and_from i (covered s m k (xs ++ ys)) p.0 (covered_front s m k xs ys p.1))
-    ]
+covered_front s m k [] ys e = cc
+covered_front s m k (x ∷ xs) ys e = grind (arith, nat_tests, covered_front s m k xs ys)
 
 -- Whoever has more covers no less.
 pub covered_more :
     (s : System) (m m' : ℕ → ℕ) (k : Kind) (xs : List ℕ) → ((x part : ℕ) → has s (m x) part ≡ true → has s (m' x) part ≡ true)
     → covered s m k xs ≡ true → covered s m' k xs ≡ true
 covered_more s m m' k [] h e = e
-covered_more s m m' k (x ∷ xs) h e =
-    let f = has s (m x) (s.full k) in
-    let f' = has s (m' x) (s.full k) in
-    let i = has s (m x) (s.intent k) in
-    let i' = has s (m' x) (s.intent k) in
-    elim (or_cases f (i && covered s m k xs) e) [
-      | inl a ↦ or_left f' (i' && covered s m' k xs) (h x (s.full k) a)
-      | inr b ↦
-          let p = and_parts i (covered s m k xs) b in
-          or_right f' (i' && covered s m' k xs)
-          (and_from i' (covered s m' k xs) (h x (s.intent k) p.0) (covered_more s m m' k xs h p.1))
-    ]
+covered_more s m m' k (x ∷ xs) h e = grind (arith, nat_tests, h x (s.full k), h x (s.intent k), covered_more s m m' k xs h)
 
 module _ (s : System) (law : Lawful s) where
   -- who stands with a mode stands with what it has in it
@@ -74,44 +56,26 @@ module _ (s : System) (law : Lawful s) where
       law.stands_comm part part'
       ∙ stands_part part' m part h (law.stands_comm part' m ∙ stands_part m m' part' h' t)
 
-  by_false : (b : Bool) → (b ≡ false → ⊥) → b ≡ true
-  by_false true h = refl
-  by_false false h = absurd (h refl)
-
   -- along one path two covered kinds commute
   meet :
       (m m' : ℕ → ℕ) (k l : Kind) → ((x : ℕ) → s.stands (m x) (m' x) ≡ true) → (xs : List ℕ) → covered s m k xs ≡ true
       → covered s m' l xs ≡ true → commutes k l ≡ true
-  meet m m' k l st [] a b = absurd (both_ways false refl a)
+  meet m m' k l st [] a b = cc
   meet m m' k l st (x ∷ xs) a b =
-      let f = has s (m x) (s.full k) in
-      let i = has s (m x) (s.intent k) in
-      let f' = has s (m' x) (s.full l) in
-      let i' = has s (m' x) (s.intent l) in
-      elim (or_cases f (i && covered s m k xs) a) [
-        | inl full ↦
-            by_false (commutes k l)
-            (λ apart.
-            elim (or_cases f' (i' && covered s m' l xs) b) [
-              | inl full' ↦
-                  both_ways (s.stands (s.full k) (s.full l)) (law.full_full k l apart)
-                  (stands_parts (m x) (s.full k) (m' x) (s.full l) full full' (st x))
-              | inr rest' ↦
-                  both_ways (s.stands (s.full k) (s.intent l)) (law.full_intent k l apart)
-                  (stands_parts (m x) (s.full k) (m' x) (s.intent l) full (and_parts i' (covered s m' l xs) rest').0 (st x))
-            ])
-        | inr rest ↦
-            let p = and_parts i (covered s m k xs) rest in
-            elim (or_cases f' (i' && covered s m' l xs) b) [
-              | inl full' ↦
-                  by_false (commutes k l)
-                  (λ apart.
-                  both_ways (s.stands (s.full l) (s.intent k)) (law.full_intent l k (commutes_comm l k ∙ apart))
-                  (law.stands_comm (s.full l) (s.intent k)
-                  ∙ stands_parts (m x) (s.intent k) (m' x) (s.full l) p.0 full' (st x)))
-              | inr rest' ↦ meet m m' k l st xs p.1 (and_parts i' (covered s m' l xs) rest').1
-            ]
-      ]
+      grind (
+        arith,
+        nat_tests,
+        law.full_full k l,
+        law.full_intent k l,
+        law.full_intent l k,
+        law.stands_comm (s.full l) (s.intent k),
+        commutes_comm l k,
+        stands_parts (m x) (s.full k) (m' x) (s.full l),
+        stands_parts (m x) (s.full k) (m' x) (s.intent l),
+        stands_parts (m x) (s.intent k) (m' x) (s.full l),
+        st x,
+        meet m m' k l st xs,
+      )
 
   module _ (ps : List ℕ) (f : Falls ps) (m m' : ℕ → ℕ) (st : (x : ℕ) → s.stands (m x) (m' x) ≡ true) where
     pub apart_one_one :
