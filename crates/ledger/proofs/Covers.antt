@@ -13,6 +13,7 @@ use Rattle.operations.specs.declared.operation.Operation.{Operation}
 use Rattle.operations.specs.Alone.{Step}
 use Rattle.ledger.specs.Walks.{has}
 use Rattle.ledger.proofs.Swaps.{commutes_comm}
+use Rattle.ledger.proofs.Runs.{all_weaker}
 use Rattle.ledger.specs.Collisions.{Apart, ListsApart, covered, Covers}
 
 -- If g is on the path of r, the path of g is a front of it.
@@ -92,16 +93,8 @@ module _ (s : System) (law : Lawful s) where
 
     pub apart_each : (ss : List Step) (o : Operation) → Covers s ps m ss → covered s m' (kind o.action) (path ps o.granule) ≡ true
         → AllByRecursion (λ t. Apart ps t.0 o) ss
-    apart_each [] o c b = tt
-    apart_each (t ∷ ts) o c b = (apart_one_one t.0 o c.0 b, apart_each ts o c.1 b)
+    apart_each ss o c b = all_weaker (λ t a. apart_one_one t.0 o a b) ss c
 
     -- The lists of two such jobs are apart.
     pub apart_lists : (ss ts : List Step) → Covers s ps m ss → Covers s ps m' ts → ListsApart ps ss ts
-    apart_lists [] ts c d = tt
-    apart_lists (t ∷ ss) ts c d = (one t ts c.0 d, apart_lists ss ts c.1 d)
-      where
-        one :
-            (t : Step) (ts : List Step) → covered s m (kind t.0.action) (path ps t.0.granule) ≡ true → Covers s ps m' ts
-            → AllByRecursion (λ u. Apart ps t.0 u.0) ts
-        one t [] c d = tt
-        one t (u ∷ us) c d = (apart_one_one t.0 u.0 c d.0, one t us c d.1)
+    apart_lists ss ts c d = all_weaker (λ t a. all_weaker (λ u b. apart_one_one t.0 u.0 a b) ts d) ss c

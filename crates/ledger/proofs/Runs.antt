@@ -11,6 +11,16 @@ abbrev pub effect : List ℕ → List Step → ℕ → ℕ → ℕ
 effect ps [] r w = w
 effect ps (s ∷ ss) r w = effect ps ss r (left_at ps s.0 r w)
 
+-- what holds of each element holds of each in a weaker form, and of a list put together if of its parts
+pub all_weaker :
+    {X : Type 0} {P Q : X → Type 0} → ((x : X) → P x → Q x) → (xs : List X) → AllByRecursion P xs → AllByRecursion Q xs
+all_weaker f [] h = tt
+all_weaker f (x ∷ xs) h = (f x h.0, all_weaker f xs h.1)
+
+pub all_++ : {X : Type 0} (P : X → Type 0) (xs ys : List X) → AllByRecursion P xs → AllByRecursion P ys → AllByRecursion P (xs ++ ys)
+all_++ P [] ys h k = k
+all_++ P (x ∷ xs) ys h k = (h.0, all_++ P xs ys h.1 k)
+
 module _ (ps : List ℕ) where
   pub split :
       (xs ys : List Step) (ws out : List ℕ) → Alone ps ws (xs ++ ys) out → (mid : List ℕ) × Alone ps ws xs mid × Alone ps mid ys out
@@ -55,8 +65,7 @@ module _ (ps : List ℕ) where
 
   -- being apart goes both ways, and over lists put together
   pub apart_one : (t : Step) (ss : List Step) → AllByRecursion (λ s. Apart ps t.0 s.0) ss → AllByRecursion (λ s. Apart ps s.0 t.0) ss
-  apart_one t [] h = tt
-  apart_one t (s ∷ ss) h = (apart_comm ps t.0 s.0 h.0, apart_one t ss h.1)
+  apart_one t ss h = all_weaker (λ s. apart_comm ps t.0 s.0) ss h
 
   pub apart_none : (ts : List Step) → ListsApart ps ts []
   apart_none [] = tt
@@ -70,10 +79,6 @@ module _ (ps : List ℕ) where
   pub apart_sym : (ss ts : List Step) → ListsApart ps ss ts → ListsApart ps ts ss
   apart_sym [] ts h = apart_none ts
   apart_sym (s ∷ ss) ts h = cons_apart s ss ts (apart_one s ts h.0) (apart_sym ss ts h.1)
-
-  all_++ : (P : Step → Type 0) (xs ys : List Step) → AllByRecursion P xs → AllByRecursion P ys → AllByRecursion P (xs ++ ys)
-  all_++ P [] ys h k = k
-  all_++ P (x ∷ xs) ys h k = (h.0, all_++ P xs ys h.1 k)
 
   pub apart_++ : (ss xs ys : List Step) → ListsApart ps ss xs → ListsApart ps ss ys → ListsApart ps ss (xs ++ ys)
   apart_++ [] xs ys h k = tt
