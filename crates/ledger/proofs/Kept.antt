@@ -1,23 +1,23 @@
 -- What stays true of a ledger, and of the words and notes that go with it.
-use Rattle.std.proofs.Common.{◌≡◌, ℕ, suc, ◌<◌, ◌≤◌, Bool, true, false, List, [], ◌∷◌, sym, refl, ap, ◌∙◌, subst, ap₂, inl, inr, arith}
+use Rattle.std.proofs.Common.{◌≡◌, ℕ, suc, ◌<◌, ◌≤◌, Bool, true, false, List, [], sym, refl, ap, ◌∙◌, subst, inl, inr, arith}
 use Rattle.std.proofs.lemmas.Bool.Decides.{nat_tests}
-use Rattle.std.proofs.lemmas.Bool.{cases_eq, cases_lt, cases_Bool, both_ways, eq-eqb, ne_eqb, lt-ltb, le-ltb}
+use Rattle.std.proofs.lemmas.Bool.{cases_lt, cases_Bool, both_ways}
 use Rattle.modes.specs.Systems.{System, Lawful}
 use Rattle.shelf.specs.Words.{Fit}
 use Rattle.granules.specs.Below.{some_below}
 use Rattle.granules.proofs.Below.{some_from}
 use Rattle.operations.specs.Alone.{Step}
-use Rattle.ledger.specs.Jobs.{Jobs, Status, working, waiting, wounded, ended, is_open, is_wounded, is_ended, put, where_so, raise}
-use Rattle.ledger.specs.Walks.{passes, gives_way, holds_up, judge, must_give_way, must_wait, yields, blocks, has}
+use Rattle.ledger.specs.Jobs.{Jobs, Status, ended, is_open, is_wounded, is_ended, put, where_so, raise}
+use Rattle.ledger.specs.Walks.{passes, judge, yields, blocks, has}
 use Rattle.ledger.specs.Ledgers.{Layout, Ledger, ledger_hands}
 use Rattle.ledger.specs.Promises.{count_of, in_turn}
 use Rattle.ledger.specs.Collisions.{Covers}
 use Rattle.ledger.specs.Models.{Note, nothing, all_taken_back}
-use Rattle.ledger.proofs.Piles.{put_same, put_at, put_other, put_cases}
+use Rattle.ledger.proofs.Piles.{put_same, put_other, put_cases}
 use Rattle.ledger.proofs.Runs.{all_weaker}
 use Rattle.ledger.proofs.Orders.{in_turn_ext}
 use Rattle.ledger.proofs.Books.{Good, good_ext}
-use Rattle.ledger.proofs.Wounds.{where_true, where_false, where_cases, wound_all}
+use Rattle.ledger.proofs.Wounds.{where_false, where_cases, wound_all}
 use Rattle.ledger.proofs.Covers.{covered_more}
 
 -- the steps of a job that are in the words and can still be taken back
