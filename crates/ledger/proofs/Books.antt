@@ -34,13 +34,9 @@ abbrev pub sets_at : List ℕ → ℕ → List Step → Bool
 sets_at ps r [] = false
 sets_at ps r (s ∷ ss) = (is_set s.0.action && record_beneath ps s.0.granule r) || sets_at ps r ss
 
-pub sets_left : (ps : List ℕ) (r : ℕ) (xs ys : List Step) → sets_at ps r xs ≡ true → sets_at ps r (xs ++ ys) ≡ true
-sets_left ps r [] ys e = cc
-sets_left ps r (x ∷ xs) ys e = grind (arith, nat_tests, sets_left ps r xs ys)
-
-pub sets_right : (ps : List ℕ) (r : ℕ) (xs ys : List Step) → sets_at ps r ys ≡ true → sets_at ps r (xs ++ ys) ≡ true
-sets_right ps r [] ys e = e
-sets_right ps r (x ∷ xs) ys e = grind (arith, nat_tests, sets_right ps r xs ys)
+pub sets_++ : (ps : List ℕ) (r : ℕ) (xs ys : List Step) → sets_at ps r (xs ++ ys) ≡ (sets_at ps r xs || sets_at ps r ys)
+sets_++ ps r [] ys = refl
+sets_++ ps r (x ∷ xs) ys = grind (arith, nat_tests, sets_++ ps r xs ys)
 
 module _ (ps : List ℕ) where
   -- An operation carried out leaves each word within 32 bits.
@@ -88,9 +84,6 @@ pub record Good (ps start : List ℕ) (done : List Step) (live : ℕ → List St
   pub beyond : (k : ℕ) → n ≤ k → live k ≡ []
   pub serial : Alone ps start (done ++ pile live n) ws
   pub right : (k r : ℕ) → r < length ws → RightNote ps start done live n k r (notes k r)
-
-put_put : (j k : ℕ) (f : ℕ → List Step) (i : ℕ) → put j [] (put k [] f) i ≡ put k [] (put j [] f) i
-put_put j k f i = grind (arith, nat_tests)
 
 module _ (ps start : List ℕ) (fits : Fit start) where
   -- the run with one job last: what the others leave, and what it does to that
@@ -185,9 +178,7 @@ module _ (ps start : List ℕ) (fits : Fit start) where
   module _ (done : List Step) (live : ℕ → List Step) (n : ℕ) (ws : List ℕ) (notes : ℕ → ℕ → Note)
       (good : Good ps start done live n ws notes) where
     inside : (k r : ℕ) → sets_at ps r (live k) ≡ true → k < n
-    inside k r e =
-        elim (cases_lt k n)
-        [ inl l ↦ l | inr l ↦ absurd (both_ways false refl (sym (ap (sets_at ps r) (good.beyond k l)) ∙ e)) ]
+    inside k r e = elim (cases_lt k n) [ inl l ↦ l | inr l ↦ absurd (let none = good.beyond k l in grind (arith, nat_tests)) ]
 
     -- One job taken back.
     pub clear_one : (k : ℕ) → k < n → Good ps start done (put k [] live) n (taken_back (notes k) ws) (put k (λ _. nothing) notes)
@@ -210,7 +201,7 @@ module _ (ps start : List ℕ) (fits : Fit start) where
               let p = apart_from done live n ws good.pairwise good.serial j (inside j r set) in
               let q = apart_from done f n p.0 (pairwise_clear ps live good.pairwise j) p.1 k l in
               let here : f k ≡ live k = put_other j [] live k (λ (z : k ≡ j). e (sym z)) in
-              let again : pile (put j [] g) n ≡ pile (put k [] f) n = pile_ext (put j [] g) (put k [] f) n (λ i _. put_put j k live i) in
+              let again : pile (put j [] g) n ≡ pile (put k [] f) n = pile_ext (put j [] g) (put k [] f) n (λ i _. grind (arith, nat_tests)) in
               let ends : q.0 ≡ mid =
               same_end ps (done ++ pile (put k [] f) n) start q.0 mid q.1 (rw (← again) a)
               in
@@ -243,7 +234,7 @@ module _ (ps start : List ℕ) (fits : Fit start) where
               (λ mid set a.
               let f = put j [] live in
               let here : f k ≡ live k = put_other j [] live k (λ (z : k ≡ j). e (sym z)) in
-              let again : pile (put j [] g) n ≡ pile (put k [] f) n = pile_ext (put j [] g) (put k [] f) n (λ i _. put_put j k live i) in (
+              let again : pile (put j [] g) n ≡ pile (put k [] f) n = pile_ext (put j [] g) (put k [] f) n (λ i _. grind (arith, nat_tests)) in (
                 mid,
                 from_front done f n mid (pairwise_clear ps live good.pairwise j) k l (rw (here, ← again) a),
                 refl,
@@ -293,14 +284,9 @@ module _ (ps start : List ℕ) (fits : Fit start) where
           right =
               λ k r h.
               let in_words : r < length ws = omega (arith, length_after ps o ws) in
-              elim (cases_eq k j) [
-                | inl e ↦
-                    subst (λ (x : ℕ). RightNote ps start done live' n x r (put j notes_j notes x r)) (sym e)
-                    (subst (λ (x : ℕ → Note). RightNote ps start done live' n j r (x r)) (sym (put_same j notes_j notes)) (own r in_words))
-                | inr e ↦
-                    subst (λ (x : ℕ → Note). RightNote ps start done live' n k r (x r)) (sym (put_other j notes_j notes k e))
-                    (carry_over done done live live' n n k r (notes k r) (put_other j longer live k e) (other k r in_words e) (good.right k r in_words))
-              ];
+              put_cases (λ x. RightNote ps start done live' n k r (x r)) j notes_j notes k (λ e. rw e (own r in_words))
+              (λ e.
+              carry_over done done live live' n n k r (notes k r) (put_other j longer live k e) (other k r in_words e) (good.right k r in_words));
         }
       where
         step : Step
@@ -318,34 +304,19 @@ module _ (ps start : List ℕ) (fits : Fit start) where
         others : (mid : List ℕ) × Alone ps start (done ++ pile (put j [] live) n) mid × Alone ps mid (live j) ws
         others = apart_from done live n ws good.pairwise good.serial j l
 
-        over : (f : ℕ → List Step) (i : ℕ) → put j [] (put j longer f) i ≡ put j [] f i
-        over f i =
-            elim (cases_eq i j) [
-              | inl a ↦ put_at j [] (put j longer f) i a ∙ sym (put_at j [] f i a)
-              | inr a ↦ put_other j [] (put j longer f) i a ∙ put_other j longer f i a ∙ sym (put_other j [] f i a)
-            ]
-
         cleared : pile (put j [] live') n ≡ pile (put j [] live) n
-        cleared = pile_ext (put j [] live') (put j [] live) n (λ i _. over live i)
+        cleared = pile_ext (put j [] live') (put j [] live) n (λ i _. grind (arith, nat_tests))
 
         wide : Pairwise ps live'
         wide i k d =
-            elim (cases_eq i j) [
-              | inl a ↦
-                  let c : k ≡ j → ⊥ = λ z. d (a ∙ sym z) in
-                  subst (λ (xs : List Step). ListsApart ps xs (live' k)) (sym (put_at j longer live i a))
-                  (subst (λ (xs : List Step). ListsApart ps longer xs) (sym (put_other j longer live k c))
-                  (apart_sym ps (live k) longer (apart_push ps (live k) (live j) step (good.pairwise k j c) (apart k c))))
-              | inr a ↦
-                  subst (λ (xs : List Step). ListsApart ps xs (live' k)) (sym (put_other j longer live i a))
-                  (elim (cases_eq k j) [
-                    | inl b ↦
-                        subst (λ (xs : List Step). ListsApart ps (live i) xs) (sym (put_at j longer live k b))
-                        (apart_push ps (live i) (live j) step (good.pairwise i j a) (apart i a))
-                    | inr b ↦
-                        subst (λ (xs : List Step). ListsApart ps (live i) xs) (sym (put_other j longer live k b)) (good.pairwise i k d)
-                  ])
-            ]
+            put_cases (λ xs. ListsApart ps xs (live' k)) j longer live i
+            (λ a.
+            let c : k ≡ j → ⊥ = λ z. d (a ∙ sym z) in
+            rw (put_other j longer live k c)
+            (apart_sym ps (live k) longer (apart_push ps (live k) (live j) step (good.pairwise k j c) (apart k c))))
+            (λ a.
+            put_cases (ListsApart ps (live i)) j longer live k
+            (λ _. apart_push ps (live i) (live j) step (good.pairwise i j a) (apart i a)) (λ _. good.pairwise i k d))
 
         -- what the others of another job leave where that job has set
         other :
@@ -362,7 +333,7 @@ module _ (ps start : List ℕ) (fits : Fit start) where
             let parts = split ps (live j) (step ∷ []) q.0 mid (subst (λ (xs : List Step). Alone ps q.0 xs mid) here q.2) in
             let old = parts.0 in
             let same : pile (put j [] f') n ≡ pile (put j [] f) n =
-            pile_ext (put j [] f') (put j [] f) n (λ i _. put_put j k live' i ∙ ap_put k i ∙ sym (put_put j k live i))
+            pile_ext (put j [] f') (put j [] f) n (λ i _. grind (arith, nat_tests))
             in
             let run : Alone ps start (done ++ pile f n) old =
             together done f n q.0 old (pairwise_clear ps live good.pairwise k) j l
@@ -381,13 +352,6 @@ module _ (ps start : List ℕ) (fits : Fit start) where
                   ∙ left_out ps o r (get_or old r 0) (set_shuts ps (live k) r o set (apart k e))
                   ),
             )
-          where
-            ap_put : (k i : ℕ) → put k [] (put j [] live') i ≡ put k [] (put j [] live) i
-            ap_put k i =
-                elim (cases_eq i k) [
-                  | inl a ↦ put_at k [] (put j [] live') i a ∙ sym (put_at k [] (put j [] live) i a)
-                  | inr a ↦ put_other k [] (put j [] live') i a ∙ over live i ∙ sym (put_other k [] (put j [] live) i a)
-                ]
 
         -- what the job's own steps now do to a place
         longer_at : (r w : ℕ) → effect ps (live' j) r w ≡ left_at ps o r (effect ps (live j) r w)
@@ -395,7 +359,7 @@ module _ (ps start : List ℕ) (fits : Fit start) where
             ap (λ (xs : List Step). effect ps xs r w) (put_same j longer live) ∙ effect_++ ps (live j) (step ∷ []) r w
 
         set_before : (r : ℕ) → sets_at ps r (live j) ≡ true → sets_at ps r (live' j) ≡ true
-        set_before r e = ap (sets_at ps r) (put_same j longer live) ∙ sets_left ps r (live j) (step ∷ []) e
+        set_before r e = grind (arith, nat_tests, put_same j longer live, sets_++ ps r (live j) (step ∷ []))
 
         alone_old : (mid : List ℕ) → Alone ps start (done ++ pile (put j [] live') n) mid → Alone ps start (done ++ pile (put j [] live) n) mid
         alone_old mid a = subst (λ (xs : List Step). Alone ps start (done ++ xs) mid) cleared a
@@ -411,31 +375,14 @@ module _ (ps start : List ℕ) (fits : Fit start) where
         own_add :
             (r m : ℕ) (note : Note) → ((w : ℕ) → left_at ps o r w ≡ (w + m) % 4294967296) → RightNote ps start done live n j r note
             → RightNote ps start done live' n j r (noted_add note m)
-        own_add r m nothing e h = (
-          omega arith,
-          λ w f.
-              let a = longer_at r w in
-              let b = e (effect ps (live j) r w) in
-              let c = h w in
-              omega arith,
-        )
-        own_add r m (added k) e h = (
-          omega arith,
-          λ w f.
-              let a = longer_at r w in
-              let b = e (effect ps (live j) r w) in
-              let c = h.1 w f in
-              omega arith,
-        )
+        own_add r m nothing e h = (omega arith, λ w f. omega (arith, longer_at r w, e (effect ps (live j) r w), h w))
+        own_add r m (added k) e h = (omega arith, λ w f. omega (arith, longer_at r w, e (effect ps (live j) r w), h.1 w f))
         own_add r m (put_back v) e h = (set_before r h.0, λ mid a. h.1 mid (alone_old mid a))
 
         own_set : (r : ℕ) → r < length ws → (v : ℕ) → o.action ≡ Set v → record_beneath ps o.granule r ≡ true
             → RightNote ps start done live' n j r (put_back (back (notes j r) (get_or ws r 0)))
         own_set r h v e t = (
-          ap (sets_at ps r) (put_same j longer live)
-              ∙ sets_right ps r (live j) (step ∷ [])
-              (or_left (is_set o.action && record_beneath ps o.granule r) false
-              (and_from (is_set o.action) (record_beneath ps o.granule r) (ap is_set e) t)),
+          grind (arith, nat_tests, put_same j longer live, sets_++ ps r (live j) (step ∷ [])),
           λ mid a.
               let ends : others.0 ≡ mid =
               same_end ps (done ++ pile (put j [] live) n) start others.0 mid others.1 (alone_old mid a)
@@ -459,23 +406,6 @@ module _ (ps start : List ℕ) (fits : Fit start) where
         own : (r : ℕ) → r < length ws → RightNote ps start done live' n j r (notes_j r)
         own r h =
             elim (cases_Bool (record_beneath ps o.granule r)) [
-              | inl t ↦
-                  subst (λ (x : Note). RightNote ps start done live' n j r x) (sym (picked r (record_beneath ps o.granule r) t))
-                  (own_touched r h t o.action refl)
-              | inr t ↦
-                  subst (λ (x : Note). RightNote ps start done live' n j r x) (sym (left_as r (record_beneath ps o.granule r) t))
-                  (own_still r (notes j r) (λ w. left_out ps o r w t) (good.right j r h))
+              | inl t ↦ rw (t, notes_j) (own_touched r h t o.action refl)
+              | inr t ↦ rw (t, notes_j) (own_still r (notes j r) (λ w. left_out ps o r w t) (good.right j r h))
             ]
-          where
-            picked :
-                (r : ℕ) (b : Bool) → b ≡ true
-                → (elim b as (λ _. Note) [ true ↦ noted o.action (get_or ws r 0) (notes j r) | false ↦ notes j r ])
-                ≡ noted o.action (get_or ws r 0) (notes j r)
-            picked r true e = refl
-            picked r false e = absurd (both_ways false refl e)
-
-            left_as :
-                (r : ℕ) (b : Bool) → b ≡ false
-                → (elim b as (λ _. Note) [ true ↦ noted o.action (get_or ws r 0) (notes j r) | false ↦ notes j r ]) ≡ notes j r
-            left_as r true e = absurd (both_ways true e refl)
-            left_as r false e = refl
