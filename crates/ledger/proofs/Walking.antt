@@ -1,6 +1,7 @@
 -- A walk keeps what is kept, and if it is completed the job covers the operation.
 use Rattle.std.proofs.Common.{◌≡◌, ℕ, zero, suc, ◌<◌, ◌≤◌, Bool, true, false, ◌&&◌, eqb, ◌⊎◌, List, [], ◌∷◌, ◌++◌, sym, refl, ap, ◌∙◌, subst, inl, inr, arith}
-use Rattle.std.proofs.lemmas.Bool.{cases_eq, cases_Bool, both_ways, eqb-true, eq-eqb, ne_eqb, and_from, or_left, or_right}
+use Rattle.std.proofs.lemmas.Bool.Decides.{nat_tests}
+use Rattle.std.proofs.lemmas.Bool.{cases_eq, cases_Bool, both_ways, eqb-true, eq-eqb, or_left}
 use Rattle.modes.specs.declared.kind.Kind.{Kind}
 use Rattle.modes.specs.Systems.{System, Lawful}
 use Rattle.shelf.specs.Words.{Fit}
@@ -8,14 +9,14 @@ use Rattle.granules.specs.Below.{some_below}
 use Rattle.granules.specs.Paths.{path}
 use Rattle.granules.proofs.Below.{some_at}
 use Rattle.granules.proofs.Climbs.{Falls, path_root, path_step}
-use Rattle.ledger.specs.Jobs.{is_open, is_ended, where_so, raise, wounded, put}
-use Rattle.ledger.specs.Walks.{Hands, Walked, must_give_way, yields, blocks, has, target, walk}
+use Rattle.ledger.specs.Jobs.{is_open, is_ended, where_so, raise, put}
+use Rattle.ledger.specs.Walks.{Hands, Walked, yields, blocks, has, target, walk}
 use Rattle.ledger.specs.Ledgers.{Layout, Ledger, ledger_hands}
 use Rattle.ledger.specs.Collisions.{covered}
 use Rattle.ledger.specs.Models.{Note, nothing, Model, model_hands, all_taken_back}
 use Rattle.ledger.proofs.Piles.{put_same}
 use Rattle.ledger.proofs.Wounds.{where_false, where_true}
-use Rattle.ledger.proofs.Kept.{Kept, judged_self, yields_young, blocks_old, stands_or_yields, open_not_ended, in_the_way, wound_kept, raise_kept, has_still}
+use Rattle.ledger.proofs.Kept.{Kept, yields_young, blocks_old, stands_or_yields, open_not_ended, in_the_way, wound_kept, raise_kept, has_still}
 
 abbrev pub model_of : Ledger → List ℕ → (ℕ → ℕ → Note) → Model
 model_of l ws notes = record { jobs = l.jobs; words = ws; notes = notes }
@@ -48,12 +49,6 @@ module _ {S : Type 0} (h : Hands S) (s : System) (k : Kind) (g a x : ℕ) (xs : 
       (h.wound (yields s (h.jobs st) a x (target s k g x ((h.jobs st).mode a x))) st))
   walk_goes e f b = rw (e, f, b, walk)
 
-target_at : (s : System) (k : Kind) (g x m : ℕ) → x ≡ g → target s k g x m ≡ s.join m (s.full k)
-target_at s k g x m e = let t = eq-eqb x g e in rw (t, target)
-
-target_above : (s : System) (k : Kind) (g x m : ℕ) → (x ≡ g → ⊥) → target s k g x m ≡ s.join m (s.intent k)
-target_above s k g x m e = let t = ne_eqb x g e in rw (t, target)
-
 module _ (s : System) (law : Lawful s) where
   -- a join has its parts in it, and all that they had
   has_joined : (m q : ℕ) → q < s.count → has s (s.join m q) q ≡ true
@@ -70,11 +65,7 @@ module _ (s : System) (law : Lawful s) where
       )
 
   target_rises : (k : Kind) (g x m part : ℕ) → has s m part ≡ true → has s (target s k g x m) part ≡ true
-  target_rises k g x m part h =
-      elim (cases_eq x g) [
-        | inl e ↦ ap (λ (t : ℕ). has s t part) (target_at s k g x m e) ∙ has_more m (s.full k) part h
-        | inr e ↦ ap (λ (t : ℕ). has s t part) (target_above s k g x m e) ∙ has_more m (s.intent k) part h
-      ]
+  target_rises k g x m part h = grind (arith, nat_tests, has_more m (s.full k) part h, has_more m (s.intent k) part h)
 
 -- the last granule of a list is g
 abbrev pub Ends : ℕ → List ℕ → Type 0
@@ -113,11 +104,9 @@ pub record Stepped (y : Layout) (start : List ℕ) (k : Kind) (a : ℕ) (l : Led
   pub covers : wl.complete ≡ true → (covered y.system (wl.left.jobs.mode a) k xs ≡ true) ⊎ (xs ≡ [])
 
 stepped_as :
-    (y : Layout) (start : List ℕ) (k : Kind) (a : ℕ) (l : Ledger) (xs : List ℕ) (wl wl' : Walked Ledger) (wm wm' : Walked Model)
+    {y : Layout} {start : List ℕ} {k : Kind} {a : ℕ} {l : Ledger} {xs : List ℕ} {wl wl' : Walked Ledger} {wm wm' : Walked Model}
     → wl ≡ wl' → wm ≡ wm' → Stepped y start k a l xs wl' wm' → Stepped y start k a l xs wl wm
-stepped_as y start k a l xs wl wl' wm wm' e d h =
-    subst (λ (w : Walked Ledger). Stepped y start k a l xs w wm) (sym e)
-    (subst (λ (w : Walked Model). Stepped y start k a l xs wl' w) (sym d) h)
+stepped_as e d h = rw (e, d) h
 
 module _ (y : Layout) (law : Lawful y.system) (start : List ℕ) (fits : Fit start) (k : Kind) (g a : ℕ) where
   -- one granule of the way
@@ -150,13 +139,10 @@ module _ (y : Layout) (law : Lawful y.system) (start : List ℕ) (fits : Fit sta
     hurt_open i e = way_open i (yields_young y.system law l.jobs a x wants i e).1
 
     older₁ : (i : ℕ) → i ≤ a → ledger₁.jobs.status i ≡ l.jobs.status i
-    older₁ i h =
-        where_false hurt wounded l.jobs.status i
-        (elim (cases_Bool (hurt i))
-        [ inl e ↦ absurd (omega (arith, (yields_young y.system law l.jobs a x wants i e).0)) | inr e ↦ e ])
+    older₁ i h = grind (arith, nat_tests)
 
     asker_spared : hurt a ≡ false
-    asker_spared = ap must_give_way (judged_self y.system a wants a (l.jobs.mode a x) refl)
+    asker_spared = grind (arith, nat_tests)
 
     kept₁ : Kept y start ledger₁ words₁ notes₁
     kept₁ = wound_kept y law start fits l ws notes kept hurt hurt_open
@@ -194,11 +180,8 @@ module _ (y : Layout) (law : Lawful y.system) (start : List ℕ) (fits : Fit sta
     on_same wl wm same next =
         let m = l.jobs.mode a x in
         let s = y.system in
-        let above : x ≡ g → ⊥ =
-        λ e. both_ways (has s m (s.full k)) full (ap (λ (t : ℕ). eqb t m) (sym (target_at s k g x m e)) ∙ same)
-        in
-        let intent : has s m (s.intent k) ≡ true = ap (λ (t : ℕ). eqb t m) (sym (target_above s k g x m above)) ∙ same in
-        let m' = wl.left.jobs.mode a in
+        let above : x ≡ g → ⊥ = λ e. absurd (grind (arith, nat_tests)) in
+        let intent : has s m (s.intent k) ≡ true = grind (arith, nat_tests) in
         record {
           words = next.words;
           notes = next.notes;
@@ -211,10 +194,7 @@ module _ (y : Layout) (law : Lawful y.system) (start : List ℕ) (fits : Fit sta
           covers =
               λ c.
               elim (next.covers c) [
-                | inl rest ↦
-                    inl
-                    (or_right (has s (m' x) (s.full k)) (has s (m' x) (s.intent k) && covered s m' k xs)
-                    (and_from (has s (m' x) (s.intent k)) (covered s m' k xs) (next.still x (s.intent k) intent) rest))
+                | inl rest ↦ inl (grind (arith, nat_tests, next.still x (s.intent k) intent))
                 | inr nil ↦ absurd (above (ends_last g x xs ends nil))
               ];
         }
@@ -275,29 +255,25 @@ module _ (y : Layout) (law : Lawful y.system) (start : List ℕ) (fits : Fit sta
                 λ c.
                 elim (cases_eq x g) [
                   | inl e ↦
-                      inl
-                      (or_left (has s (m' x) (s.full k)) rest_of
-                      (next.still x (s.full k)
-                      (ap (λ (t : ℕ). has s t (s.full k)) (mode₂ ∙ target_at s k g x m e) ∙ has_joined s law m (s.full k) (law.full_within k))))
+                      let full_there : has s wants (s.full k) ≡ true = grind (arith, nat_tests, has_joined s law m (s.full k) (law.full_within k)) in
+                      inl (grind (arith, nat_tests, next.still x (s.full k) (rw mode₂ full_there)))
                   | inr e ↦
+                      let intent_there : has s wants (s.intent k) ≡ true =
+                      grind (arith, nat_tests, has_joined s law m (s.intent k) (law.intent_within k))
+                      in
                       elim (next.covers c) [
-                        | inl rest ↦
-                            inl
-                            (or_right (has s (m' x) (s.full k)) rest_of
-                            (and_from (has s (m' x) (s.intent k)) (covered s m' k xs)
-                            (next.still x (s.intent k)
-                            (ap (λ (t : ℕ). has s t (s.intent k)) (mode₂ ∙ target_above s k g x m e)
-                            ∙ has_joined s law m (s.intent k) (law.intent_within k)))
-                            rest))
+                        | inl rest ↦ inl (grind (arith, nat_tests, next.still x (s.intent k) (rw mode₂ intent_there)))
                         | inr nil ↦ absurd (e (ends_last g x xs ends nil))
                       ]
                 ];
           }
 
-  pub walk_kept :
-      (xs : List ℕ) (l : Ledger) (ws : List ℕ) (notes : ℕ → ℕ → Note) → Kept y start l ws notes → is_open (l.jobs.status a) ≡ true → Ends g xs
-      → Stepped y start k a l xs (walk ledger_hands y.system k g a xs l) (walk model_hands y.system k g a xs (model_of l ws notes))
-  walk_kept [] l ws notes kept open_a ends =
+  -- a walk that is complete where it stands
+  done :
+      (xs : List ℕ) (l : Ledger) (ws : List ℕ) (notes : ℕ → ℕ → Note) → Kept y start l ws notes
+      → (covered y.system (l.jobs.mode a) k xs ≡ true) ⊎ (xs ≡ [])
+      → Stepped y start k a l xs (record { left = l; complete = true }) (record { left = model_of l ws notes; complete = true })
+  done xs l ws notes kept covers =
       record {
         words = ws;
         notes = notes;
@@ -307,59 +283,38 @@ module _ (y : Layout) (law : Lawful y.system) (start : List ℕ) (fits : Fit sta
         older = λ i h. refl;
         stopped = λ c. absurd (both_ways true c refl);
         still = λ z part h. h;
-        covers = λ _. inr refl;
+        covers = λ _. covers;
       }
+
+  pub walk_kept :
+      (xs : List ℕ) (l : Ledger) (ws : List ℕ) (notes : ℕ → ℕ → Note) → Kept y start l ws notes → is_open (l.jobs.status a) ≡ true → Ends g xs
+      → Stepped y start k a l xs (walk ledger_hands y.system k g a xs l) (walk model_hands y.system k g a xs (model_of l ws notes))
+  walk_kept [] l ws notes kept open_a ends = done [] l ws notes kept (inr refl)
   walk_kept (x ∷ xs) l ws notes kept open_a ends =
       let s = y.system in
       let m = l.jobs.mode a x in
       let t = target s k g x m in
       let mo = model_of l ws notes in
-      let whole_l = walk ledger_hands s k g a (x ∷ xs) l in
-      let whole_m = walk model_hands s k g a (x ∷ xs) mo in
       elim (cases_Bool (has s m (s.full k))) [
         | inl full ↦
-            stepped_as y start k a l (x ∷ xs) whole_l (record { left = l; complete = true }) whole_m (record { left = mo; complete = true })
-            (walk_covered ledger_hands s k g a x xs l full) (walk_covered model_hands s k g a x xs mo full)
-            (record {
-              words = ws;
-              notes = notes;
-              model = refl;
-              complete = refl;
-              kept = kept;
-              older = λ i h. refl;
-              stopped = λ c. absurd (both_ways true c refl);
-              still = λ z part h. h;
-              covers = λ _. inl (or_left (has s m (s.full k)) (has s m (s.intent k) && covered s (l.jobs.mode a) k xs) full);
-            })
+            stepped_as (walk_covered ledger_hands s k g a x xs l full) (walk_covered model_hands s k g a x xs mo full)
+            (done (x ∷ xs) l ws notes kept (inl (or_left _ _ full)))
         | inr full ↦
             elim (cases_Bool (eqb t m)) [
               | inl same ↦
-                  stepped_as y start k a l (x ∷ xs) whole_l (walk ledger_hands s k g a xs l) whole_m (walk model_hands s k g a xs mo)
-                  (walk_same ledger_hands s k g a x xs l full same) (walk_same model_hands s k g a x xs mo full same)
-                  (on_same x xs l ws notes kept open_a ends full (walk ledger_hands s k g a xs l) (walk model_hands s k g a xs mo) same
-                  (walk_kept xs l ws notes kept open_a (ends_tail g x xs ends)))
+                  stepped_as (walk_same ledger_hands s k g a x xs l full same) (walk_same model_hands s k g a x xs mo full same)
+                  (on_same x xs l ws notes kept open_a ends full _ _ same (walk_kept xs l ws notes kept open_a (ends_tail g x xs ends)))
               | inr differs ↦
                   elim (cases_Bool (some_below a (blocks s l.jobs a x t))) [
                     | inl held ↦
-                        stepped_as y start k a l (x ∷ xs) whole_l
-                        (record { left = ledger₁ x xs l ws notes kept open_a ends full; complete = false }) whole_m
-                        (record {
-                          left =
-                              model_of (ledger₁ x xs l ws notes kept open_a ends full) (words₁ x xs l ws notes kept open_a ends full)
-                              (notes₁ x xs l ws notes kept open_a ends full);
-                          complete = false;
-                        })
-                        (walk_stops ledger_hands s k g a x xs l full differs held) (walk_stops model_hands s k g a x xs mo full differs held)
+                        stepped_as (walk_stops ledger_hands s k g a x xs l full differs held) (walk_stops model_hands s k g a x xs mo full differs held)
                         (on_stop x xs l ws notes kept open_a ends full held)
                     | inr free ↦
-                        let l₂ = ledger₂ x xs l ws notes kept open_a ends full free in
-                        let w₁ = words₁ x xs l ws notes kept open_a ends full in
-                        let n₁ = notes₁ x xs l ws notes kept open_a ends full in
-                        stepped_as y start k a l (x ∷ xs) whole_l (walk ledger_hands s k g a xs l₂) whole_m (walk model_hands s k g a xs (model_of l₂ w₁ n₁))
-                        (walk_goes ledger_hands s k g a x xs l full differs free) (walk_goes model_hands s k g a x xs mo full differs free)
-                        (on_go x xs l ws notes kept open_a ends full free (walk ledger_hands s k g a xs l₂) (walk model_hands s k g a xs (model_of l₂ w₁ n₁))
-                        (walk_kept xs l₂ w₁ n₁ (kept₂ x xs l ws notes kept open_a ends full free) (open₁ x xs l ws notes kept open_a ends full free)
-                        (ends_tail g x xs ends)))
+                        stepped_as (walk_goes ledger_hands s k g a x xs l full differs free) (walk_goes model_hands s k g a x xs mo full differs free)
+                        (on_go x xs l ws notes kept open_a ends full free _ _
+                        (walk_kept xs (ledger₂ x xs l ws notes kept open_a ends full free) (words₁ x xs l ws notes kept open_a ends full)
+                        (notes₁ x xs l ws notes kept open_a ends full) (kept₂ x xs l ws notes kept open_a ends full free)
+                        (open₁ x xs l ws notes kept open_a ends full free) (ends_tail g x xs ends)))
                   ]
             ]
       ]
