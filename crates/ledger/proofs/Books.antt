@@ -180,67 +180,64 @@ module _ (ps start : List ℕ) (fits : Fit start) where
     inside : (k r : ℕ) → sets_at ps r (live k) ≡ true → k < n
     inside k r e = elim (cases_lt k n) [ inl l ↦ l | inr l ↦ absurd (let none = good.beyond k l in grind (arith, nat_tests)) ]
 
+    -- Job k without its steps and notes, whatever is done with them: the notes of the others stay right if, where one of them
+    -- has set, what the rest leave stays what it was.
+    drop_one :
+        (k : ℕ) (done' : List Step) (ws' : List ℕ) → length ws' ≡ length ws → Alone ps start (done' ++ pile (put k [] live) n) ws'
+        → ((j r : ℕ) → (j ≡ k → ⊥) → r < length ws → sets_at ps r (live j) ≡ true → (mid : List ℕ)
+        → Alone ps start (done' ++ pile (put k [] (put j [] live)) n) mid
+        → (old : List ℕ) × Alone ps start (done ++ pile (put j [] live) n) old × (get_or old r 0 ≡ get_or mid r 0))
+        → Good ps start done' (put k [] live) n ws' (put k (λ _. nothing) notes)
+    drop_one k done' ws' long run rest =
+        let g = put k [] live in
+        record {
+          pairwise = pairwise_clear ps live good.pairwise k;
+          beyond = λ j h. put_cases (λ xs. xs ≡ []) k [] live j (λ _. refl) (λ _. good.beyond j h);
+          serial = run;
+          right =
+              λ j r h.
+              let within : r < length ws = omega arith in
+              put_cases (λ x. RightNote ps start done' g n j r (x r)) k (λ _. nothing) notes j
+              (λ e. blank_note done' g n j r (put_at k [] live j e))
+              (λ e.
+              carry_over done done' live g n n j r (notes j r) (put_other k [] live j e)
+              (λ mid set a.
+              let again : pile (put j [] g) n ≡ pile (put k [] (put j [] live)) n =
+              pile_ext (put j [] g) (put k [] (put j [] live)) n (λ i _. grind (arith, nat_tests))
+              in
+              rest j r e within set mid (rw (← again) a))
+              (good.right j r within));
+        }
+
     -- One job taken back.
     pub clear_one : (k : ℕ) → k < n → Good ps start done (put k [] live) n (taken_back (notes k) ws) (put k (λ _. nothing) notes)
     clear_one k l =
-        let g = put k [] live in
-        let long : length (taken_back (notes k) ws) ≡ length ws = length_each 0 (λ r w. back (notes k r) w) ws in
-        record {
-          pairwise = pairwise_clear ps live good.pairwise k;
-          beyond =
-              λ j h. put_other k [] live j (λ (z : j ≡ k). omega arith) ∙ good.beyond j h;
-          serial = without done live n ws notes good k l;
-          right =
-              λ j r h.
-              put_cases (λ x. RightNote ps start done g n j r (x r)) k (λ _. nothing) notes j
-              (λ e. blank_note done g n j r (put_at k [] live j e))
-              (λ e.
-              carry_over done done live g n n j r (notes j r) (put_other k [] live j e)
-              (λ mid set a.
-              let f = put j [] live in
-              let p = apart_from done live n ws good.pairwise good.serial j (inside j r set) in
-              let q = apart_from done f n p.0 (pairwise_clear ps live good.pairwise j) p.1 k l in
-              let here : f k ≡ live k = put_other j [] live k (λ (z : k ≡ j). e (sym z)) in
-              let again : pile (put j [] g) n ≡ pile (put k [] f) n = pile_ext (put j [] g) (put k [] f) n (λ i _. grind (arith, nat_tests)) in
-              let ends : q.0 ≡ mid =
-              same_end ps (done ++ pile (put k [] f) n) start q.0 mid q.1 (rw (← again) a)
-              in
-              let len : r < length q.0 = omega (arith, run_length ps (f k) q.0 p.0 q.2, run_length ps (live j) p.0 ws p.2) in (
-                p.0,
-                p.1,
-                run_at ps (f k) q.0 p.0 q.2 r len
-                    ∙ ap (λ (xs : List Step). effect ps xs r (get_or q.0 r 0)) here
-                    ∙ set_shuts_all ps (live j) (live k) r set (good.pairwise k j (λ (z : k ≡ j). e (sym z))) (get_or q.0 r 0)
-                    ∙ ap (λ (xs : List ℕ). get_or xs r 0) ends,
-              ))
-              (good.right j r (omega arith)));
-        }
+        drop_one k done (taken_back (notes k) ws) (length_each 0 (λ r w. back (notes k r) w) ws) (without done live n ws notes good k l)
+        (λ j r e within set mid a.
+        let f = put j [] live in
+        let p = apart_from done live n ws good.pairwise good.serial j (inside j r set) in
+        let q = apart_from done f n p.0 (pairwise_clear ps live good.pairwise j) p.1 k l in
+        let here : f k ≡ live k = put_other j [] live k (λ (z : k ≡ j). e (sym z)) in
+        let ends : q.0 ≡ mid = same_end ps (done ++ pile (put k [] f) n) start q.0 mid q.1 a in
+        let len : r < length q.0 = omega (arith, run_length ps (f k) q.0 p.0 q.2, run_length ps (live j) p.0 ws p.2) in (
+          p.0,
+          p.1,
+          run_at ps (f k) q.0 p.0 q.2 r len
+              ∙ ap (λ (xs : List Step). effect ps xs r (get_or q.0 r 0)) here
+              ∙ set_shuts_all ps (live j) (live k) r set (good.pairwise k j (λ (z : k ≡ j). e (sym z))) (get_or q.0 r 0)
+              ∙ ap (λ (xs : List ℕ). get_or xs r 0) ends,
+        ))
 
     -- A job that commits: its steps go to the end of those done.
     pub commit_one : (k : ℕ) → k < n → Good ps start (done ++ live k) (put k [] live) n ws (put k (λ _. nothing) notes)
     commit_one k l =
-        let g = put k [] live in
-        record {
-          pairwise = pairwise_clear ps live good.pairwise k;
-          beyond =
-              λ j h. put_other k [] live j (λ (z : j ≡ k). omega arith) ∙ good.beyond j h;
-          serial = to_front done live n ws good.pairwise k l good.serial;
-          right =
-              λ j r h.
-              put_cases (λ x. RightNote ps start (done ++ live k) g n j r (x r)) k (λ _. nothing) notes j
-              (λ e. blank_note (done ++ live k) g n j r (put_at k [] live j e))
-              (λ e.
-              carry_over done (done ++ live k) live g n n j r (notes j r) (put_other k [] live j e)
-              (λ mid set a.
-              let f = put j [] live in
-              let here : f k ≡ live k = put_other j [] live k (λ (z : k ≡ j). e (sym z)) in
-              let again : pile (put j [] g) n ≡ pile (put k [] f) n = pile_ext (put j [] g) (put k [] f) n (λ i _. grind (arith, nat_tests)) in (
-                mid,
-                from_front done f n mid (pairwise_clear ps live good.pairwise j) k l (rw (here, ← again) a),
-                refl,
-              ))
-              (good.right j r h));
-        }
+        drop_one k (done ++ live k) ws refl (to_front done live n ws good.pairwise k l good.serial)
+        (λ j r e within set mid a.
+        let here : put j [] live k ≡ live k = put_other j [] live k (λ (z : k ≡ j). e (sym z)) in (
+          mid,
+          from_front done (put j [] live) n mid (pairwise_clear ps live good.pairwise j) k l (rw here a),
+          refl,
+        ))
 
     -- One number more, which has no steps.
     pub more : Good ps start done live (suc n) ws notes

@@ -8,7 +8,7 @@ use Rattle.granules.specs.Below.{some_below}
 use Rattle.granules.proofs.Below.{some_from}
 use Rattle.operations.specs.Alone.{Step}
 use Rattle.ledger.specs.Jobs.{Jobs, Status, ended, is_open, is_wounded, is_ended, put, where_so, raise}
-use Rattle.ledger.specs.Walks.{passes, judge, yields, blocks, has}
+use Rattle.ledger.specs.Walks.{passes, gives_way, holds_up, judge, yields, blocks, has}
 use Rattle.ledger.specs.Ledgers.{Layout, Ledger, ledger_hands}
 use Rattle.ledger.specs.Promises.{count_of, in_turn}
 use Rattle.ledger.specs.Collisions.{Covers}
@@ -60,9 +60,18 @@ pub given : (y : Layout) (start : List ℕ) (l : Ledger) (ws : List ℕ) (notes 
 given y start l ws notes kept k e =
     elim (cases_lt k (suc l.jobs.opened)) [ inl h ↦ h | inr h ↦ absurd (grind (arith, nat_tests, kept.unopened k h)) ]
 
--- nobody is in its own way
+-- the judgement of one holder, case by case
 pub judged_self : (s : System) (a t i h : ℕ) → i ≡ a → judge s a t i h ≡ passes
 judged_self s a t i h e = grind (arith, nat_tests)
+
+judged_stands : (s : System) (a t i h : ℕ) → (i ≡ a → ⊥) → s.stands h t ≡ true → judge s a t i h ≡ passes
+judged_stands s a t i h e st = grind (arith, nat_tests)
+
+judged_young : (s : System) (a t i h : ℕ) → (i ≡ a → ⊥) → s.stands h t ≡ false → a < i → judge s a t i h ≡ gives_way
+judged_young s a t i h e st l = grind (arith, nat_tests)
+
+judged_old : (s : System) (a t i h : ℕ) → (i ≡ a → ⊥) → s.stands h t ≡ false → i ≤ a → judge s a t i h ≡ holds_up
+judged_old s a t i h e st l = grind (arith, nat_tests)
 
 module _ (s : System) (law : Lawful s) (js : Jobs) (a x t : ℕ) where
   -- who gives way is younger and does not stand; who holds up is older and does not stand

@@ -49,6 +49,12 @@ module _ {S : Type 0} (h : Hands S) (s : System) (k : Kind) (g a x : ℕ) (xs : 
       (h.wound (yields s (h.jobs st) a x (target s k g x ((h.jobs st).mode a x))) st))
   walk_goes e f b = rw (e, f, b, walk)
 
+target_at : (s : System) (k : Kind) (g x m : ℕ) → x ≡ g → target s k g x m ≡ s.join m (s.full k)
+target_at s k g x m e = grind (arith, nat_tests)
+
+target_above : (s : System) (k : Kind) (g x m : ℕ) → (x ≡ g → ⊥) → target s k g x m ≡ s.join m (s.intent k)
+target_above s k g x m e = grind (arith, nat_tests)
+
 module _ (s : System) (law : Lawful s) where
   -- a join has its parts in it, and all that they had
   has_joined : (m q : ℕ) → q < s.count → has s (s.join m q) q ≡ true
@@ -255,12 +261,10 @@ module _ (y : Layout) (law : Lawful y.system) (start : List ℕ) (fits : Fit sta
                 λ c.
                 elim (cases_eq x g) [
                   | inl e ↦
-                      let full_there : has s wants (s.full k) ≡ true = grind (arith, nat_tests, has_joined s law m (s.full k) (law.full_within k)) in
+                      let full_there : has s wants (s.full k) ≡ true = rw (target_at s k g x m e) (has_joined s law m (s.full k) (law.full_within k)) in
                       inl (grind (arith, nat_tests, next.still x (s.full k) (rw mode₂ full_there)))
                   | inr e ↦
-                      let intent_there : has s wants (s.intent k) ≡ true =
-                      grind (arith, nat_tests, has_joined s law m (s.intent k) (law.intent_within k))
-                      in
+                      let intent_there : has s wants (s.intent k) ≡ true = rw (target_above s k g x m e) (has_joined s law m (s.intent k) (law.intent_within k)) in
                       elim (next.covers c) [
                         | inl rest ↦ inl (grind (arith, nat_tests, next.still x (s.intent k) (rw mode₂ intent_there)))
                         | inr nil ↦ absurd (e (ends_last g x xs ends nil))
