@@ -130,7 +130,7 @@ module _ (ps start : List ℕ) (fits : Fit start) where
       omega (arith, h.0)
   back_right done live n k r (put_back v) mid w h a f e = h.1 mid a
 
-  module _ (done : List Step) (live : ℕ → List Step) (n : ℕ) (ws : List ℕ) (notes : ℕ → ℕ → Note)
+  module _ {done : List Step} {live : ℕ → List Step} {n : ℕ} {ws : List ℕ} {notes : ℕ → ℕ → Note}
       (good : Good ps start done live n ws notes) where
     -- To take a job back gives exactly the words of the others.
     pub without : (k : ℕ) → k < n → Alone ps start (done ++ pile (put k [] live) n) (taken_back (notes k) ws)
@@ -169,13 +169,11 @@ module _ (ps start : List ℕ) (fits : Fit start) where
 
   -- the same books under other names of the same functions
   pub good_ext :
-      (done : List Step) (live live' : ℕ → List Step) (n : ℕ) (ws : List ℕ) (notes notes' : ℕ → ℕ → Note) → ((k : ℕ) → live k ≡ live' k)
+      {done : List Step} {live live' : ℕ → List Step} {n : ℕ} {ws : List ℕ} {notes notes' : ℕ → ℕ → Note} → ((k : ℕ) → live k ≡ live' k)
       → ((k : ℕ) → notes k ≡ notes' k) → Good ps start done live n ws notes → Good ps start done live' n ws notes'
-  good_ext done live live' n ws notes notes' e d g =
-      subst (λ (x : ℕ → ℕ → Note). Good ps start done live' n ws x) (fun_ext d)
-      (subst (λ (x : ℕ → List Step). Good ps start done x n ws notes) (fun_ext e) g)
+  good_ext e d g = rw (← fun_ext d, ← fun_ext e) g
 
-  module _ (done : List Step) (live : ℕ → List Step) (n : ℕ) (ws : List ℕ) (notes : ℕ → ℕ → Note)
+  module _ {done : List Step} {live : ℕ → List Step} {n : ℕ} {ws : List ℕ} {notes : ℕ → ℕ → Note}
       (good : Good ps start done live n ws notes) where
     inside : (k r : ℕ) → sets_at ps r (live k) ≡ true → k < n
     inside k r e = elim (cases_lt k n) [ inl l ↦ l | inr l ↦ absurd (let none = good.beyond k l in grind (arith, nat_tests)) ]
@@ -212,7 +210,7 @@ module _ (ps start : List ℕ) (fits : Fit start) where
     -- One job taken back.
     pub clear_one : (k : ℕ) → k < n → Good ps start done (put k [] live) n (taken_back (notes k) ws) (put k (λ _. nothing) notes)
     clear_one k l =
-        drop_one k done (taken_back (notes k) ws) (length_each 0 (λ r w. back (notes k r) w) ws) (without done live n ws notes good k l)
+        drop_one k done (taken_back (notes k) ws) (length_each 0 (λ r w. back (notes k r) w) ws) (without good k l)
         (λ j r e within set mid a.
         let f = put j [] live in
         let p = apart_from done live n ws good.pairwise good.serial j (inside j r set) in

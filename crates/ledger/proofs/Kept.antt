@@ -55,9 +55,9 @@ pub open_not_ended : (st : Status) → is_open st ≡ true → is_ended st ≡ f
 open_not_ended st e = grind (arith, nat_tests)
 
 -- a job that has not ended has a number that was given
-pub given : (y : Layout) (start : List ℕ) (l : Ledger) (ws : List ℕ) (notes : ℕ → ℕ → Note) → Kept y start l ws notes
+pub given : {y : Layout} {start : List ℕ} {l : Ledger} {ws : List ℕ} {notes : ℕ → ℕ → Note} → Kept y start l ws notes
     → (k : ℕ) → is_ended (l.jobs.status k) ≡ false → k < suc l.jobs.opened
-given y start l ws notes kept k e =
+given {l = l} kept k e =
     elim (cases_lt k (suc l.jobs.opened)) [ inl h ↦ h | inr h ↦ absurd (grind (arith, nat_tests, kept.unopened k h)) ]
 
 -- the judgement of one holder, case by case
@@ -90,7 +90,7 @@ module _ (s : System) (law : Lawful s) (js : Jobs) (a x t : ℕ) where
   pub in_the_way : (k : ℕ) → s.stands (js.mode k x) t ≡ false → js.mode k x ≡ 0 → ⊥
   in_the_way k e z = both_ways (s.stands (js.mode k x) t) e (ap (λ (m : ℕ). s.stands m t) z ∙ law.stands_none t)
 
-module _ (y : Layout) (law : Lawful y.system) (start : List ℕ) (fits : Fit start) (l : Ledger) (ws : List ℕ) (notes : ℕ → ℕ → Note)
+module _ {y : Layout} (law : Lawful y.system) {start : List ℕ} (fits : Fit start) {l : Ledger} {ws : List ℕ} {notes : ℕ → ℕ → Note}
     (kept : Kept y start l ws notes) where
   -- Open jobs wounded.
   module _ (p : ℕ → Bool) (open_ones : (k : ℕ) → p k ≡ true → is_open (l.jobs.status k) ≡ true) where
@@ -126,11 +126,8 @@ module _ (y : Layout) (law : Lawful y.system) (start : List ℕ) (fits : Fit sta
               (λ k.
               elim (cases_Bool (is_ended (l.jobs.status k)))
               [ inl e ↦ inr (sym (where_false p [] l.steps k (ended_spared k e))) | inr e ↦ inl (kept.ordered k e) ]))
-              (good_ext y.parents start fits (in_turn l.steps l.order) (where_so p [] (live l)) (live (ledger_hands.wound p l))
-              (suc l.jobs.opened) (all_taken_back p notes (suc l.jobs.opened) ws) (where_so p (λ _. nothing) notes)
-              (where_so p (λ _. nothing) notes) spared_live (λ k. refl)
-              (wound_all y.parents start fits (in_turn l.steps l.order) (live l) (suc l.jobs.opened) ws notes kept.books p
-              (λ k e. given y start l ws notes kept k (open_not_ended (l.jobs.status k) (open_ones k e)))));
+              (good_ext _ _ fits spared_live (λ k. refl)
+              (wound_all fits kept.books p (λ k e. given kept k (open_not_ended (l.jobs.status k) (open_ones k e)))));
           unopened = λ k h. grind (arith, nat_tests, kept.unopened k h, ended_spared k);
           unused = λ k h. grind (arith, nat_tests, kept.unopened k h, kept.unused k h);
           clean = λ k w. grind (arith, nat_tests, kept.clean k);

@@ -1,7 +1,6 @@
 -- What is kept when a job changes its state, is opened, reopened, carries out an operation, commits or gives up.
-use Rattle.std.proofs.Common.{◌≡◌, ℕ, suc, ◌≤◌, true, false, List, [], ◌∷◌, ◌++◌, get_or, sym, refl, ap, ◌∙◌, subst, inl, inr, append_assoc, append-nil, arith}
+use Rattle.std.proofs.Common.{◌≡◌, ℕ, suc, ◌≤◌, true, false, List, [], ◌∷◌, ◌++◌, get_or, sym, refl, ap, ◌∙◌, subst, append_assoc, append-nil, arith}
 use Rattle.std.proofs.lemmas.Bool.Decides.{nat_tests}
-use Rattle.std.proofs.lemmas.Bool.{cases_eq}
 use Rattle.modes.specs.Systems.{Lawful}
 use Rattle.shelf.specs.Words.{Fit}
 use Rattle.granules.specs.Paths.{path, record_beneath}
@@ -16,10 +15,10 @@ use Rattle.ledger.specs.Promises.{count_of, in_turn}
 use Rattle.ledger.specs.Collisions.{Covers, covered}
 use Rattle.ledger.specs.Models.{Note, nothing, noted, taken_back}
 use Rattle.ledger.proofs.Runs.{all_++}
-use Rattle.ledger.proofs.Piles.{put_same, put_other, put_cases}
+use Rattle.ledger.proofs.Piles.{put_other, put_cases}
 use Rattle.ledger.proofs.Orders.{in_turn_ext}
 use Rattle.ledger.proofs.Books.{Good, good_ext, clear_one, commit_one, more, carry_one}
-use Rattle.ledger.proofs.Kept.{Kept, live, live_open, live_same, open_not_ended, given}
+use Rattle.ledger.proofs.Kept.{Kept, live, live_open, open_not_ended, given}
 use Rattle.ledger.proofs.Covers.{apart_each}
 
 in_turn_push : (f : ℕ → List Step) (ks : List ℕ) (j : ℕ) → in_turn f (ks ++ j ∷ []) ≡ in_turn f ks ++ f j
@@ -30,11 +29,11 @@ count_push : (k j : ℕ) (ks : List ℕ) → (k ≡ j → ⊥) → count_of k (k
 count_push k j [] d = grind (arith, nat_tests)
 count_push k j (x ∷ xs) d = grind (arith, nat_tests, count_push k j xs d)
 
-module _ (y : Layout) (law : Lawful y.system) (start : List ℕ) (fits : Fit start) (l : Ledger) (ws : List ℕ) (notes : ℕ → ℕ → Note)
+module _ {y : Layout} (law : Lawful y.system) {start : List ℕ} (fits : Fit start) {l : Ledger} {ws : List ℕ} {notes : ℕ → ℕ → Note}
     (kept : Kept y start l ws notes) where
   -- a number that was given is not one to come
   not_new : (j : ℕ) → is_ended (l.jobs.status j) ≡ false → (k : ℕ) → suc l.jobs.opened ≤ k → k ≡ j → ⊥
-  not_new j e k h z = omega (arith, given y start l ws notes kept j e)
+  not_new j e k h z = omega (arith, given kept j e)
 
   -- Job j gets another state, and is neither ended by it nor has its steps changed.
   module _ (j : ℕ) (st : Status) (was : is_ended (l.jobs.status j) ≡ false) (is : is_ended st ≡ false) (whole : is_wounded st ≡ false)
@@ -43,11 +42,7 @@ module _ (y : Layout) (law : Lawful y.system) (start : List ℕ) (fits : Fit sta
     turned = ledger_hands.with_jobs (now_is j st l.jobs) l
 
     same_live : (k : ℕ) → live l k ≡ live turned k
-    same_live k =
-        elim (cases_eq k j) [
-          | inl e ↦ rw e (same ∙ sym (live_open turned j (ap is_open (put_same j st l.jobs.status) ∙ opens)))
-          | inr e ↦ live_same l turned k (ap is_open (sym (put_other j st l.jobs.status k e))) (λ _. refl)
-        ]
+    same_live k = grind (arith, nat_tests)
 
     pub turn_kept : Kept y start turned ws notes
     turn_kept =
@@ -55,9 +50,7 @@ module _ (y : Layout) (law : Lawful y.system) (start : List ℕ) (fits : Fit sta
           standing = kept.standing;
           idle = λ k x o. kept.idle k x (grind (arith, nat_tests));
           covers = λ k. subst (λ (xs : List Step). Covers y.system y.parents (l.jobs.mode k) xs) (same_live k) (kept.covers k);
-          books =
-              good_ext y.parents start fits (in_turn l.steps l.order) (live l) (live turned) (suc l.jobs.opened) ws notes notes same_live
-              (λ k. refl) kept.books;
+          books = good_ext _ _ fits same_live (λ k. refl) kept.books;
           unopened = λ k h. put_other j st l.jobs.status k (not_new j was k h) ∙ kept.unopened k h;
           unused = kept.unused;
           clean = λ k w. grind (arith, nat_tests, kept.clean k);
@@ -78,9 +71,7 @@ module _ (y : Layout) (law : Lawful y.system) (start : List ℕ) (fits : Fit sta
         standing = kept.standing;
         idle = λ k x o. kept.idle k x (grind (arith, nat_tests, kept.unopened k));
         covers = λ k. subst (λ (xs : List Step). Covers y.system y.parents (l.jobs.mode k) xs) (opened_live k) (kept.covers k);
-        books =
-            good_ext y.parents start fits (in_turn l.steps l.order) (live l) (live opened_ledger) (suc new) ws notes notes opened_live
-            (λ k. refl) (more y.parents start fits (in_turn l.steps l.order) (live l) new ws notes kept.books);
+        books = good_ext _ _ fits opened_live (λ k. refl) (more _ _ fits kept.books);
         unopened = λ k h. put_other new working l.jobs.status k (λ (z : k ≡ new). omega arith) ∙ kept.unopened k (omega arith);
         unused = λ k h. kept.unused k (omega arith);
         clean = λ k w. grind (arith, nat_tests, kept.clean k, kept.unused k);
@@ -139,11 +130,7 @@ module _ (y : Layout) (law : Lawful y.system) (start : List ℕ) (fits : Fit sta
         (subst
         (λ (xs : List Step). Good y.parents start xs (live (ended_ledger l.steps order (λ k d. refl))) (suc l.jobs.opened) ws (put j (λ _. nothing) notes))
         (ap (λ (xs : List Step). in_turn l.steps l.order ++ xs) (live_open l j o) ∙ sym (in_turn_push l.steps l.order j))
-        (good_ext y.parents start fits (in_turn l.steps l.order ++ live l j) (put j [] (live l))
-        (live (ended_ledger l.steps order (λ k d. refl))) (suc l.jobs.opened) ws (put j (λ _. nothing) notes) (put j (λ _. nothing) notes)
-        (ended_live l.steps order (λ k d. refl)) (λ k. refl)
-        (commit_one y.parents start fits (in_turn l.steps l.order) (live l) (suc l.jobs.opened) ws notes kept.books j
-        (given y start l ws notes kept j was))))
+        (good_ext _ _ fits (ended_live l.steps order (λ k d. refl)) (λ k. refl) (commit_one _ _ fits kept.books j (given kept j was))))
         (λ k d. count_push k j l.order d)
 
     pub giveup_kept :
@@ -157,11 +144,7 @@ module _ (y : Layout) (law : Lawful y.system) (start : List ℕ) (fits : Fit sta
         (λ (xs : List Step).
         Good y.parents start xs (live (ended_ledger steps l.order others)) (suc l.jobs.opened) (taken_back (notes j) ws) (put j (λ _. nothing) notes))
         (in_turn_ext l.steps steps l.order (λ k. grind (arith, nat_tests, kept.ordered j was)))
-        (good_ext y.parents start fits (in_turn l.steps l.order) (put j [] (live l)) (live (ended_ledger steps l.order others))
-        (suc l.jobs.opened) (taken_back (notes j) ws) (put j (λ _. nothing) notes) (put j (λ _. nothing) notes)
-        (ended_live steps l.order others) (λ k. refl)
-        (clear_one y.parents start fits (in_turn l.steps l.order) (live l) (suc l.jobs.opened) ws notes kept.books j
-        (given y start l ws notes kept j was))))
+        (good_ext _ _ fits (ended_live steps l.order others) (λ k. refl) (clear_one _ _ fits kept.books j (given kept j was))))
         (λ k d. refl)
 
   -- An operation that its job covers is carried out.
@@ -201,10 +184,8 @@ module _ (y : Layout) (law : Lawful y.system) (start : List ℕ) (fits : Fit sta
               subst
               (λ (xs : List Step). Good y.parents start xs (live longer) (suc l.jobs.opened) (after y.parents o ws) notes')
               (in_turn_ext l.steps (put j (l.steps j ++ step ∷ []) l.steps) l.order (λ k. grind (arith, nat_tests, kept.ordered j was)))
-              (good_ext y.parents start fits (in_turn l.steps l.order) (put j (live l j ++ step ∷ []) (live l)) (live longer)
-              (suc l.jobs.opened) (after y.parents o ws) notes' notes' longer_live (λ k. refl)
-              (carry_one y.parents start fits (in_turn l.steps l.order) (live l) (suc l.jobs.opened) ws notes kept.books j o
-              (given y start l ws notes kept j was)
+              (good_ext _ _ fits longer_live (λ k. refl)
+              (carry_one _ _ fits kept.books j o (given kept j was)
               (λ i d.
               apart_each y.system law y.parents f (l.jobs.mode i) (l.jobs.mode j) (λ x. kept.standing i j x d) (live l i) o
               (kept.covers i) cov)));

@@ -54,7 +54,7 @@ module _ (y : Layout) (law : Lawful y.system) (f : Falls y.parents) (start : Lis
   pub serial : (l : Ledger) (ws : List ℕ) (notes : ℕ → ℕ → Note) → Kept y start l ws notes → Serial y start l ws
   serial l ws notes kept ks arr =
       in_order y.parents start (in_turn l.steps l.order) (live l) l.steps (suc l.jobs.opened) ks kept.books.pairwise
-      (λ k. grind (arith, nat_tests, arr k, given y start l ws notes kept k, open_not_ended (l.jobs.status k)))
+      (λ k. grind (arith, nat_tests, arr k, given kept k, open_not_ended (l.jobs.status k)))
       (λ k. grind (arith, nat_tests, arr k))
       ws kept.books.serial
 
@@ -66,11 +66,11 @@ module _ (y : Layout) (law : Lawful y.system) (f : Falls y.parents) (start : Lis
   serial_without l ws notes kept j ks arr open_j =
       in_order y.parents start (in_turn l.steps l.order) (put j [] (live l)) l.steps (suc l.jobs.opened) ks
       (pairwise_clear y.parents (live l) kept.books.pairwise j)
-      (λ k. grind (arith, nat_tests, arr k, given y start l ws notes kept k, open_not_ended (l.jobs.status k)))
+      (λ k. grind (arith, nat_tests, arr k, given kept k, open_not_ended (l.jobs.status k)))
       (λ k. grind (arith, nat_tests, arr k))
       (taken_back (notes j) ws)
-      (without y.parents start fit (in_turn l.steps l.order) (live l) (suc l.jobs.opened) ws notes kept.books j
-      (given y start l ws notes kept j (open_not_ended (l.jobs.status j) open_j)))
+      (without _ _ fit kept.books j
+      (given kept j (open_not_ended (l.jobs.status j) open_j)))
 
   -- What a list of calls leaves, and what holds of each of them.
   record Ran (l : Ledger) (events : List Event) (end : Model) : Type 0 where
@@ -85,7 +85,7 @@ module _ (y : Layout) (law : Lawful y.system) (f : Falls y.parents) (start : Lis
       → Ran l (history y cs (model_of l ws notes)) (served y cs (model_of l ws notes))
   ran [] l ws notes kept = record { words = ws; notes = notes; model = refl; keeps = kept; each = tt }
   ran (c ∷ cs) l ws notes kept =
-      let m = served_kept y law f start fit l ws notes kept c in
+      let m = served_kept law f fit kept c in
       let s = serve y c (model_of l ws notes) in
       let l' = next y l (c, s.said) in
       let rest = ran cs l' m.words m.notes' m.keeps in

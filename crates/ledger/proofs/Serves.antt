@@ -67,8 +67,8 @@ path_some ps f zero e = omega (arith, ap length (sym (path_root ps) ∙ e))
 path_some ps f (suc g) e =
     omega (arith, simp length-append at (ap length (sym (path_step ps f (suc g) (omega arith)) ∙ e)))
 
-module _ (y : Layout) (law : Lawful y.system) (f : Falls y.parents) (start : List ℕ) (fit : Fit start) (l : Ledger) (ws : List ℕ)
-    (notes : ℕ → ℕ → Note) (kept : Kept y start l ws notes) where
+module _ {y : Layout} (law : Lawful y.system) (f : Falls y.parents) {start : List ℕ} (fit : Fit start) {l : Ledger} {ws : List ℕ}
+    {notes : ℕ → ℕ → Note} (kept : Kept y start l ws notes) where
   -- What an attempt leaves.
   record Attempted (j : ℕ) (o : Operation) (wl : Walked Ledger) (wm : Walked Model) : Type 0 where
     words : List ℕ
@@ -88,7 +88,7 @@ module _ (y : Layout) (law : Lawful y.system) (f : Falls y.parents) (start : Lis
       let k = kind o.action in
       let xs = path y.parents o.granule in
       let w =
-      walk_kept y law start fit k o.granule j xs l ws notes kept open_j (path_ends y.parents f o.granule)
+      walk_kept law fit k o.granule j xs kept open_j (path_ends y.parents f o.granule)
       in
       let wl = walk ledger_hands y.system k o.granule j xs l in
       let st = tried_state o wl.complete in
@@ -101,7 +101,7 @@ module _ (y : Layout) (law : Lawful y.system) (f : Falls y.parents) (start : Lis
             ap₂ (λ (b : Bool) (m : Model). model_hands.with_jobs (now_is j (tried_state o b) m.jobs) m) w.complete w.model;
         complete = w.complete;
         keeps =
-            turn_kept y law start fit wl.left w.words w.notes w.kept j st (open_not_ended (wl.left.jobs.status j) open_now)
+            turn_kept law fit w.kept j st (open_not_ended (wl.left.jobs.status j) open_now)
             ok.1 ok.2 ok.0 (live_open wl.left j open_now);
         state = put_same j st wl.left.jobs.status;
         older = λ i h. put_other j st wl.left.jobs.status i (λ (z : i ≡ j). omega arith) ∙ w.older i (omega arith);
@@ -161,7 +161,7 @@ module _ (y : Layout) (law : Lawful y.system) (f : Falls y.parents) (start : Lis
                 words = (carried y j o before).words;
                 notes' = (carried y j o before).notes;
                 model = rw (l', sv);
-                keeps = rw l' (carry_kept y law start fit wl.left w.words w.notes' w.keeps f j o op (w.covers t));
+                keeps = rw l' (carry_kept law fit w.keeps f j o op (w.covers t));
                 right =
                     shows (try y j o mo).said
                     (rw (t, sv) (out, refl, shaped o.action (sum y.parents w.words o.granule) (records_beneath y.parents o.granule)));
@@ -205,7 +205,7 @@ module _ (y : Layout) (law : Lawful y.system) (f : Falls y.parents) (start : Lis
         words = ws;
         notes' = notes;
         model = refl;
-        keeps = open_kept y law start fit l ws notes kept;
+        keeps = open_kept law fit kept;
         right = refl;
         oldest =
             λ k old.
@@ -223,7 +223,7 @@ module _ (y : Layout) (law : Lawful y.system) (f : Falls y.parents) (start : Lis
         notes' = notes;
         model = refl;
         keeps =
-            turn_kept y law start fit l ws notes kept j working lives.0 refl refl refl (live_shut l j lives.1 ∙ sym (kept.clean j w));
+            turn_kept law fit kept j working lives.0 refl refl refl (live_shut l j lives.1 ∙ sym (kept.clean j w));
         right = refl;
         oldest = λ k old. (spared j working refl k, λ who said. cc);
       }
@@ -233,7 +233,7 @@ module _ (y : Layout) (law : Lawful y.system) (f : Falls y.parents) (start : Lis
         notes' = put j (λ _. nothing) notes;
         model = refl;
         keeps =
-            commit_kept y law start fit l ws notes kept j none.1.1.1.0
+            commit_kept law fit kept j none.1.1.1.0
             (still_open (l.jobs.status j) none.1.1.1.0 none.1.1.1.1.0);
         right = refl;
         oldest = λ k old. (spared j ended refl k, λ who said. cc);
@@ -243,7 +243,7 @@ module _ (y : Layout) (law : Lawful y.system) (f : Falls y.parents) (start : Lis
         words = _;
         notes' = put j (λ _. nothing) notes;
         model = refl;
-        keeps = giveup_kept y law start fit l ws notes kept j none.1.1.1.0;
+        keeps = giveup_kept law fit kept j none.1.1.1.0;
         right = refl;
         oldest = λ k old. (spared j ended refl k, λ who said. cc);
       }

@@ -114,9 +114,9 @@ stepped_as :
     → wl ≡ wl' → wm ≡ wm' → Stepped y start k a l xs wl' wm' → Stepped y start k a l xs wl wm
 stepped_as e d h = rw (e, d) h
 
-module _ (y : Layout) (law : Lawful y.system) (start : List ℕ) (fits : Fit start) (k : Kind) (g a : ℕ) where
+module _ {y : Layout} (law : Lawful y.system) {start : List ℕ} (fits : Fit start) (k : Kind) (g a : ℕ) where
   -- one granule of the way
-  module _ (x : ℕ) (xs : List ℕ) (l : Ledger) (ws : List ℕ) (notes : ℕ → ℕ → Note) (kept : Kept y start l ws notes)
+  module _ (x : ℕ) (xs : List ℕ) {l : Ledger} {ws : List ℕ} {notes : ℕ → ℕ → Note} (kept : Kept y start l ws notes)
       (open_a : is_open (l.jobs.status a) ≡ true) (ends : Ends g (x ∷ xs))
       (full : has y.system (l.jobs.mode a x) (y.system.full k) ≡ false) where
     -- what is wanted there, and who gives way
@@ -151,7 +151,7 @@ module _ (y : Layout) (law : Lawful y.system) (start : List ℕ) (fits : Fit sta
     asker_spared = grind (arith, nat_tests)
 
     kept₁ : Kept y start ledger₁ words₁ notes₁
-    kept₁ = wound_kept y law start fits l ws notes kept hurt hurt_open
+    kept₁ = wound_kept law fits kept hurt hurt_open
 
     mode₁ : ledger₁.jobs.mode a ≡ l.jobs.mode a
     mode₁ = where_false hurt (λ _. 0) l.jobs.mode a asker_spared
@@ -229,7 +229,7 @@ module _ (y : Layout) (law : Lawful y.system) (start : List ℕ) (fits : Fit sta
           (ap (λ (f : ℕ → ℕ). has y.system (f x) part) (sym mode₁) ∙ h)
 
       kept₂ : Kept y start ledger₂ words₁ notes₁
-      kept₂ = raise_kept y law start fits ledger₁ words₁ notes₁ kept₁ a x wants open₁ alone₁ rises₁
+      kept₂ = raise_kept law fits kept₁ a x wants open₁ alone₁ rises₁
 
       mode₂ : ledger₂.jobs.mode a x ≡ wants
       mode₂ =
@@ -256,7 +256,7 @@ module _ (y : Layout) (law : Lawful y.system) (start : List ℕ) (fits : Fit sta
             still =
                 λ z part h.
                 next.still z part
-                (has_still y law start fits ledger₁ words₁ notes₁ kept₁ a x wants open₁ alone₁ rises₁ z part (still₁ z part h));
+                (has_still law fits kept₁ a x wants open₁ alone₁ rises₁ z part (still₁ z part h));
             covers =
                 λ c.
                 elim (cases_eq x g) [
@@ -274,10 +274,10 @@ module _ (y : Layout) (law : Lawful y.system) (start : List ℕ) (fits : Fit sta
 
   -- a walk that is complete where it stands
   done :
-      (xs : List ℕ) (l : Ledger) (ws : List ℕ) (notes : ℕ → ℕ → Note) → Kept y start l ws notes
+      (xs : List ℕ) {l : Ledger} {ws : List ℕ} {notes : ℕ → ℕ → Note} → Kept y start l ws notes
       → (covered y.system (l.jobs.mode a) k xs ≡ true) ⊎ (xs ≡ [])
       → Stepped y start k a l xs (record { left = l; complete = true }) (record { left = model_of l ws notes; complete = true })
-  done xs l ws notes kept covers =
+  done xs {l = l} {ws = ws} {notes = notes} kept covers =
       record {
         words = ws;
         notes = notes;
@@ -291,10 +291,10 @@ module _ (y : Layout) (law : Lawful y.system) (start : List ℕ) (fits : Fit sta
       }
 
   pub walk_kept :
-      (xs : List ℕ) (l : Ledger) (ws : List ℕ) (notes : ℕ → ℕ → Note) → Kept y start l ws notes → is_open (l.jobs.status a) ≡ true → Ends g xs
+      (xs : List ℕ) {l : Ledger} {ws : List ℕ} {notes : ℕ → ℕ → Note} → Kept y start l ws notes → is_open (l.jobs.status a) ≡ true → Ends g xs
       → Stepped y start k a l xs (walk ledger_hands y.system k g a xs l) (walk model_hands y.system k g a xs (model_of l ws notes))
-  walk_kept [] l ws notes kept open_a ends = done [] l ws notes kept (inr refl)
-  walk_kept (x ∷ xs) l ws notes kept open_a ends =
+  walk_kept [] kept open_a ends = done [] kept (inr refl)
+  walk_kept (x ∷ xs) {l = l} {ws = ws} {notes = notes} kept open_a ends =
       let s = y.system in
       let m = l.jobs.mode a x in
       let t = target s k g x m in
@@ -302,23 +302,21 @@ module _ (y : Layout) (law : Lawful y.system) (start : List ℕ) (fits : Fit sta
       elim (cases_Bool (has s m (s.full k))) [
         | inl full ↦
             stepped_as (walk_covered ledger_hands s k g a x xs l full) (walk_covered model_hands s k g a x xs mo full)
-            (done (x ∷ xs) l ws notes kept (inl (or_left _ _ full)))
+            (done (x ∷ xs) kept (inl (or_left _ _ full)))
         | inr full ↦
             elim (cases_Bool (eqb t m)) [
               | inl same ↦
                   stepped_as (walk_same ledger_hands s k g a x xs l full same) (walk_same model_hands s k g a x xs mo full same)
-                  (on_same x xs l ws notes kept open_a ends full _ _ same (walk_kept xs l ws notes kept open_a (ends_tail g x xs ends)))
+                  (on_same x xs kept open_a ends full _ _ same (walk_kept xs kept open_a (ends_tail g x xs ends)))
               | inr differs ↦
                   elim (cases_Bool (some_below a (blocks s l.jobs a x t))) [
                     | inl held ↦
                         stepped_as (walk_stops ledger_hands s k g a x xs l full differs held) (walk_stops model_hands s k g a x xs mo full differs held)
-                        (on_stop x xs l ws notes kept open_a ends full held)
+                        (on_stop x xs kept open_a ends full held)
                     | inr free ↦
                         stepped_as (walk_goes ledger_hands s k g a x xs l full differs free) (walk_goes model_hands s k g a x xs mo full differs free)
-                        (on_go x xs l ws notes kept open_a ends full free _ _
-                        (walk_kept xs (ledger₂ x xs l ws notes kept open_a ends full free) (words₁ x xs l ws notes kept open_a ends full)
-                        (notes₁ x xs l ws notes kept open_a ends full) (kept₂ x xs l ws notes kept open_a ends full free)
-                        (open₁ x xs l ws notes kept open_a ends full free) (ends_tail g x xs ends)))
+                        (on_go x xs kept open_a ends full free _ _
+                        (walk_kept xs (kept₂ x xs kept open_a ends full free) (open₁ x xs kept open_a ends full free) (ends_tail g x xs ends)))
                   ]
             ]
       ]

@@ -5,7 +5,7 @@ use Rattle.std.proofs.lemmas.Bool.{cases_Bool}
 use Rattle.shelf.specs.Words.{Fit}
 use Rattle.operations.specs.Alone.{Step}
 use Rattle.ledger.specs.Jobs.{put, where_so}
-use Rattle.ledger.specs.Models.{Note, nothing, taken_back, all_taken_back}
+use Rattle.ledger.specs.Models.{Note, nothing, all_taken_back}
 use Rattle.ledger.proofs.Books.{Good, good_ext, clear_one}
 
 pub where_true : {A : Type 0} (p : ℕ → Bool) (a : A) (f : ℕ → A) (k : ℕ) → p k ≡ true → where_so p a f k ≡ a
@@ -27,7 +27,7 @@ where_cases P p a f k h e =
       | inr c ↦ subst P (sym (where_false p a f k c)) (e c)
     ]
 
-module _ (ps start : List ℕ) (fits : Fit start) (done : List Step) (live : ℕ → List Step) (n : ℕ) (ws : List ℕ) (notes : ℕ → ℕ → Note)
+module _ {ps start : List ℕ} (fits : Fit start) {done : List Step} {live : ℕ → List Step} {n : ℕ} {ws : List ℕ} {notes : ℕ → ℕ → Note}
     (good : Good ps start done live n ws notes) (p : ℕ → Bool) (within : (k : ℕ) → p k ≡ true → k < n) where
   abbrev upto : ℕ → ℕ → Bool
   upto m k = p k && ltb k m
@@ -40,31 +40,20 @@ module _ (ps start : List ℕ) (fits : Fit start) (done : List Step) (live : ℕ
   no_more a f m t k = grind (arith, nat_tests)
 
   go : (m : ℕ) → m ≤ n → Good ps start done (where_so (upto m) [] live) n (all_taken_back p notes m ws) (where_so (upto m) (λ _. nothing) notes)
-  go zero l =
-      good_ext ps start fits done live (where_so (upto 0) [] live) n ws notes (where_so (upto 0) (λ _. nothing) notes)
-      (λ k. grind (arith, nat_tests)) (λ k. grind (arith, nat_tests)) good
+  go zero l = good_ext _ _ fits (λ k. grind (arith, nat_tests)) (λ k. grind (arith, nat_tests)) good
   go (suc m) l =
       let before = go m (omega arith) in
-      let live_m = where_so (upto m) [] live in
-      let notes_m = where_so (upto m) (λ _. nothing) notes in
-      let ws_m = all_taken_back p notes m ws in
       elim (cases_Bool (p m)) [
         | inl t ↦
-            let same : notes_m m ≡ notes m = grind (arith, nat_tests) in
+            let same : where_so (upto m) (λ _. nothing) notes m ≡ notes m = grind (arith, nat_tests) in
             rw (t, all_taken_back, ← same)
-            (good_ext ps start fits done (put m [] live_m) (where_so (upto (suc m)) [] live) n (taken_back (notes_m m) ws_m)
-            (put m (λ _. nothing) notes_m) (where_so (upto (suc m)) (λ _. nothing) notes) (one_more [] live m t) (one_more (λ _. nothing) notes m t)
-            (clear_one ps start fits done live_m n ws_m notes_m before m (omega arith)))
-        | inr t ↦
-            rw (t, all_taken_back)
-            (good_ext ps start fits done live_m (where_so (upto (suc m)) [] live) n ws_m notes_m (where_so (upto (suc m)) (λ _. nothing) notes)
-            (no_more [] live m t) (no_more (λ _. nothing) notes m t) before)
+            (good_ext _ _ fits (one_more [] live m t) (one_more (λ _. nothing) notes m t) (clear_one _ _ fits before m (omega arith)))
+        | inr t ↦ rw (t, all_taken_back) (good_ext _ _ fits (no_more [] live m t) (no_more (λ _. nothing) notes m t) before)
       ]
 
   -- The books are right with all those taken back that the test picks.
   pub wound_all : Good ps start done (where_so p [] live) n (all_taken_back p notes n ws) (where_so p (λ _. nothing) notes)
   wound_all =
       let same : (k : ℕ) → upto n k ≡ p k = λ k. grind (arith, nat_tests, within k) in
-      good_ext ps start fits done (where_so (upto n) [] live) (where_so p [] live) n (all_taken_back p notes n ws)
-      (where_so (upto n) (λ _. nothing) notes) (where_so p (λ _. nothing) notes)
-      (λ k. where_cong (upto n) p [] live k (same k)) (λ k. where_cong (upto n) p (λ _. nothing) notes k (same k)) (go n (omega arith))
+      good_ext _ _ fits (λ k. where_cong (upto n) p [] live k (same k)) (λ k. where_cong (upto n) p (λ _. nothing) notes k (same k))
+      (go n (omega arith))
