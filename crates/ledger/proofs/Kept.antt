@@ -30,12 +30,6 @@ live_open l k e = rw (e, live)
 pub live_shut : (l : Ledger) (k : ℕ) → is_open (l.jobs.status k) ≡ false → live l k ≡ []
 live_shut l k e = rw (e, live)
 
--- two ledgers have the same of a job that is open in both or in neither, with the same steps
-pub live_same :
-    (l l' : Ledger) (k : ℕ) → is_open (l.jobs.status k) ≡ is_open (l'.jobs.status k)
-    → (is_open (l.jobs.status k) ≡ true → l.steps k ≡ l'.steps k) → live l k ≡ live l' k
-live_same l l' k e same = grind (arith, nat_tests)
-
 pub record Kept (y : Layout) (start : List ℕ) (l : Ledger) (ws : List ℕ) (notes : ℕ → ℕ → Note) : Type 0 where
   -- the modes of any two jobs stand together
   pub standing : (i j x : ℕ) → (i ≡ j → ⊥) → y.system.stands (l.jobs.mode i x) (l.jobs.mode j x) ≡ true
@@ -60,7 +54,7 @@ pub given : {y : Layout} {start : List ℕ} {l : Ledger} {ws : List ℕ} {notes 
 given {l = l} kept k e =
     elim (cases_lt k (suc l.jobs.opened)) [ inl h ↦ h | inr h ↦ absurd (grind (arith, nat_tests, kept.unopened k h)) ]
 
--- the judgement of one holder, case by case
+-- the judgement of one holder, case by case: what the definition says, for its reader
 pub judged_self : (s : System) (a t i h : ℕ) → i ≡ a → judge s a t i h ≡ passes
 judged_self s a t i h e = grind (arith, nat_tests)
 

@@ -8,12 +8,6 @@ use Rattle.ledger.specs.Promises.{count_of, in_turn}
 use Rattle.ledger.proofs.Runs.{Alike, alike_after}
 use Rattle.ledger.proofs.Piles.{pile, pile_none, Pairwise, pairwise_clear, first}
 
-pub count_here : (k x : ℕ) (xs : List ℕ) → x ≡ k → count_of k (x ∷ xs) ≡ suc (count_of k xs)
-count_here k x xs h = grind (arith, nat_tests)
-
-pub count_else : (k x : ℕ) (xs : List ℕ) → (x ≡ k → ⊥) → count_of k (x ∷ xs) ≡ count_of k xs
-count_else k x xs h = grind (arith, nat_tests)
-
 -- lists that agree on the jobs in turn
 pub in_turn_ext :
     (f g : ℕ → List Step) (ks : List ℕ) → ((k : ℕ) → (count_of k ks ≡ 0) ⊎ (f k ≡ g k)) → in_turn f ks ≡ in_turn g ks
