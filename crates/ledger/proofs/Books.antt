@@ -240,24 +240,17 @@ module _ (ps start : List ℕ) (fits : Fit start) where
     -- One number more, which has no steps.
     pub more : Good ps start done live (suc n) ws notes
     more =
-        let none : pile live (suc n) ≡ pile live n =
-        ap (λ (xs : List Step). pile live n ++ xs) (good.beyond n (omega arith)) ∙ append-nil (pile live n)
-        in
+        let none : live n ≡ [] = good.beyond n (omega arith) in
         record {
           pairwise = good.pairwise;
           beyond = λ k h. good.beyond k (omega arith);
-          serial = subst (λ (xs : List Step). Alone ps start (done ++ xs) ws) (sym none) good.serial;
+          serial = rw (none, append-nil) good.serial;
           right =
               λ k r h.
               carry_over done done live live n (suc n) k r (notes k r) refl
               (λ mid set a.
-              let f = put k [] live in
-              let gone : f n ≡ [] = put_other k [] live n (λ (z : n ≡ k). omega (arith, inside k r set)) ∙ good.beyond n (omega arith) in (
-                mid,
-                subst (λ (xs : List Step). Alone ps start (done ++ xs) mid)
-                    (ap (λ (xs : List Step). pile f n ++ xs) gone ∙ append-nil (pile f n)) a,
-                refl,
-              ))
+              let gone : put k [] live n ≡ [] = put_cases (λ xs. xs ≡ []) k [] live n (λ _. refl) (λ _. none) in
+              (mid, rw (gone, append-nil) at a, refl))
               (good.right k r h);
         }
 
@@ -269,13 +262,10 @@ module _ (ps start : List ℕ) (fits : Fit start) where
     carry_one j o l apart =
         record {
           pairwise = wide;
-          beyond =
-              λ k h. put_other j longer live k (λ (z : k ≡ j). omega arith) ∙ good.beyond k h;
+          beyond = λ k h. put_other j longer live k (λ (z : k ≡ j). omega arith) ∙ good.beyond k h;
           serial =
-              together done live' n others.0 (after ps o ws) wide j l
-              (subst (λ (xs : List Step). Alone ps start (done ++ xs) others.0) (sym (cleared)) others.1)
-              (subst (λ (xs : List Step). Alone ps others.0 xs (after ps o ws)) (sym (put_same j longer live))
-              (alone_push ps others.0 (live j) step ws (after ps o ws) others.2 refl refl));
+              together done live' n others.0 (after ps o ws) wide j l (rw cleared others.1)
+              (rw (put_same j longer live) (alone_push ps others.0 (live j) step ws (after ps o ws) others.2 refl refl));
           right =
               λ k r h.
               let in_words : r < length ws = omega (arith, length_after ps o ws) in
@@ -324,16 +314,13 @@ module _ (ps start : List ℕ) (fits : Fit start) where
             let c : j ≡ k → ⊥ = λ z. e (sym z) in
             let q = apart_from done f' n mid (pairwise_clear ps live' wide k) a j l in
             let here : f' j ≡ longer = put_other k [] live' j c ∙ put_same j longer live in
-            let here_old : f j ≡ live j = put_other k [] live j c in
-            let parts = split ps (live j) (step ∷ []) q.0 mid (subst (λ (xs : List Step). Alone ps q.0 xs mid) here q.2) in
+            let parts = split ps (live j) (step ∷ []) q.0 mid (rw here at q.2) in
             let old = parts.0 in
             let same : pile (put j [] f') n ≡ pile (put j [] f) n =
             pile_ext (put j [] f') (put j [] f) n (λ i _. grind (arith, nat_tests))
             in
             let run : Alone ps start (done ++ pile f n) old =
-            together done f n q.0 old (pairwise_clear ps live good.pairwise k) j l
-            (subst (λ (xs : List Step). Alone ps start (done ++ xs) q.0) same q.1)
-            (subst (λ (xs : List Step). Alone ps q.0 xs old) (sym here_old) parts.1)
+            together done f n q.0 old (pairwise_clear ps live good.pairwise k) j l (rw same at q.1) (rw (put_other k [] live j c) parts.1)
             in
             let long : r < length old =
             omega (arith, run_length ps (done ++ pile f n) start old run, run_length ps (done ++ pile live n) start ws good.serial)
@@ -357,7 +344,7 @@ module _ (ps start : List ℕ) (fits : Fit start) where
         set_before r e = grind (arith, nat_tests, put_same j longer live, sets_++ ps r (live j) (step ∷ []))
 
         alone_old : (mid : List ℕ) → Alone ps start (done ++ pile (put j [] live') n) mid → Alone ps start (done ++ pile (put j [] live) n) mid
-        alone_old mid a = subst (λ (xs : List Step). Alone ps start (done ++ xs) mid) cleared a
+        alone_old mid a = rw cleared at a
 
         -- an operation that leaves the record leaves the note right
         own_still :
@@ -389,18 +376,15 @@ module _ (ps start : List ℕ) (fits : Fit start) where
         )
 
         own_touched : (r : ℕ) → r < length ws → record_beneath ps o.granule r ≡ true → (a : Action) → o.action ≡ a
-            → RightNote ps start done live' n j r (noted a (get_or ws r 0) (notes j r))
-        own_touched r h t Read e =
-            own_still r (notes j r) (λ w. left_in ps o r w t ∙ ap (λ (a : Action). changed a w) e) (good.right j r h)
-        own_touched r h t Mean e =
-            own_still r (notes j r) (λ w. left_in ps o r w t ∙ ap (λ (a : Action). changed a w) e) (good.right j r h)
-        own_touched r h t (Set v) e = own_set r h v e t
-        own_touched r h t (Add m) e =
-            own_add r m (notes j r) (λ w. left_in ps o r w t ∙ ap (λ (a : Action). changed a w) e) (good.right j r h)
+            → ((w : ℕ) → left_at ps o r w ≡ changed a w) → RightNote ps start done live' n j r (noted a (get_or ws r 0) (notes j r))
+        own_touched r h t Read e s = own_still r (notes j r) s (good.right j r h)
+        own_touched r h t Mean e s = own_still r (notes j r) s (good.right j r h)
+        own_touched r h t (Set v) e s = own_set r h v e t
+        own_touched r h t (Add m) e s = own_add r m (notes j r) s (good.right j r h)
 
         own : (r : ℕ) → r < length ws → RightNote ps start done live' n j r (notes_j r)
         own r h =
             elim (cases_Bool (record_beneath ps o.granule r)) [
-              | inl t ↦ rw (t, notes_j) (own_touched r h t o.action refl)
+              | inl t ↦ rw (t, notes_j) (own_touched r h t o.action refl (λ w. left_in ps o r w t))
               | inr t ↦ rw (t, notes_j) (own_still r (notes j r) (λ w. left_out ps o r w t) (good.right j r h))
             ]
