@@ -112,14 +112,8 @@ module _ {y : Layout} (law : Lawful y.system) {start : List ℕ} (fits : Fit sta
               rw (← spared_live k)
               (elim (cases_Bool (p k)) [ inl e ↦ rw (e, where_so) tt | inr e ↦ rw (e, where_so) (kept.covers k) ]);
           books =
-              subst
-              (λ (xs : List Step).
-              Good y.parents start xs (live (ledger_hands.wound p l)) (suc l.jobs.opened)
-              (all_taken_back p notes (suc l.jobs.opened) ws) (where_so p (λ _. nothing) notes))
-              (in_turn_ext l.steps (where_so p [] l.steps) l.order
-              (λ k.
-              elim (cases_Bool (is_ended (l.jobs.status k)))
-              [ inl e ↦ inr (sym (where_false p [] l.steps k (ended_spared k e))) | inr e ↦ inl (kept.ordered k e) ]))
+              rw (← in_turn_ext l.steps (where_so p [] l.steps) l.order
+              (λ k. grind (arith, nat_tests, ended_spared k, kept.ordered k)))
               (good_ext _ _ fits spared_live (λ k. refl)
               (wound_all fits kept.books p (λ k e. given kept k (open_not_ended (l.jobs.status k) (open_ones k e)))));
           unopened = λ k h. grind (arith, nat_tests, kept.unopened k h, ended_spared k);

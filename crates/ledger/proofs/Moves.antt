@@ -49,7 +49,7 @@ module _ {y : Layout} (law : Lawful y.system) {start : List ℕ} (fits : Fit sta
         record {
           standing = kept.standing;
           idle = λ k x o. kept.idle k x (grind (arith, nat_tests));
-          covers = λ k. subst (λ (xs : List Step). Covers y.system y.parents (l.jobs.mode k) xs) (same_live k) (kept.covers k);
+          covers = λ k. rw (← same_live k) (kept.covers k);
           books = good_ext _ _ fits same_live (λ k. refl) kept.books;
           unopened = λ k h. put_other j st l.jobs.status k (not_new j was k h) ∙ kept.unopened k h;
           unused = kept.unused;
@@ -70,7 +70,7 @@ module _ {y : Layout} (law : Lawful y.system) {start : List ℕ} (fits : Fit sta
       record {
         standing = kept.standing;
         idle = λ k x o. kept.idle k x (grind (arith, nat_tests, kept.unopened k));
-        covers = λ k. subst (λ (xs : List Step). Covers y.system y.parents (l.jobs.mode k) xs) (opened_live k) (kept.covers k);
+        covers = λ k. rw (← opened_live k) (kept.covers k);
         books = good_ext _ _ fits opened_live (λ k. refl) (more _ _ fits kept.books);
         unopened = λ k h. put_other new working l.jobs.status k (λ (z : k ≡ new). omega arith) ∙ kept.unopened k (omega arith);
         unused = λ k h. kept.unused k (omega arith);
@@ -127,9 +127,7 @@ module _ {y : Layout} (law : Lawful y.system) {start : List ℕ} (fits : Fit sta
     commit_kept o =
         let order = l.order ++ j ∷ [] in
         end_kept l.steps order (λ k d. refl) ws
-        (subst
-        (λ (xs : List Step). Good y.parents start xs (live (ended_ledger l.steps order (λ k d. refl))) (suc l.jobs.opened) ws (put j (λ _. nothing) notes))
-        (ap (λ (xs : List Step). in_turn l.steps l.order ++ xs) (live_open l j o) ∙ sym (in_turn_push l.steps l.order j))
+        (rw (in_turn_push l.steps l.order j, ← live_open l j o)
         (good_ext _ _ fits (ended_live l.steps order (λ k d. refl)) (λ k. refl) (commit_one _ _ fits kept.books j (given kept j was))))
         (λ k d. count_push k j l.order d)
 
@@ -140,10 +138,7 @@ module _ {y : Layout} (law : Lawful y.system) {start : List ℕ} (fits : Fit sta
         let steps = put j [] l.steps in
         let others : (k : ℕ) → (k ≡ j → ⊥) → steps k ≡ l.steps k = λ k d. put_other j [] l.steps k d in
         end_kept steps l.order others (taken_back (notes j) ws)
-        (subst
-        (λ (xs : List Step).
-        Good y.parents start xs (live (ended_ledger steps l.order others)) (suc l.jobs.opened) (taken_back (notes j) ws) (put j (λ _. nothing) notes))
-        (in_turn_ext l.steps steps l.order (λ k. grind (arith, nat_tests, kept.ordered j was)))
+        (rw (← in_turn_ext l.steps steps l.order (λ k. grind (arith, nat_tests, kept.ordered j was)))
         (good_ext _ _ fits (ended_live steps l.order others) (λ k. refl) (clear_one _ _ fits kept.books j (given kept j was))))
         (λ k d. refl)
 
@@ -181,9 +176,7 @@ module _ {y : Layout} (law : Lawful y.system) {start : List ℕ} (fits : Fit sta
               (λ e. rw e (all_++ (λ t. covered y.system (l.jobs.mode j) (kind t.0.action) (path y.parents t.0.granule) ≡ true) (live l j) (step ∷ []) (kept.covers j) (cov, tt)))
               (λ _. kept.covers k));
           books =
-              subst
-              (λ (xs : List Step). Good y.parents start xs (live longer) (suc l.jobs.opened) (after y.parents o ws) notes')
-              (in_turn_ext l.steps (put j (l.steps j ++ step ∷ []) l.steps) l.order (λ k. grind (arith, nat_tests, kept.ordered j was)))
+              rw (← in_turn_ext l.steps (put j (l.steps j ++ step ∷ []) l.steps) l.order (λ k. grind (arith, nat_tests, kept.ordered j was)))
               (good_ext _ _ fits longer_live (λ k. refl)
               (carry_one _ _ fits kept.books j o (given kept j was)
               (λ i d.

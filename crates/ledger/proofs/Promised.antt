@@ -135,6 +135,3 @@ take_back_exact s law parents words ok start fit calls j ks arr open_j =
     let l = written y blank (history y calls (fresh start)) in
     subst (λ (x : Model). Alone parents start (in_turn l.steps l.order ++ in_turn l.steps ks) (taken_back (x.notes j) x.words))
     (sym r.model) (serial_without y law f start fit l r.words r.notes r.keeps j ks arr open_j)
-
-pub refused_leaves_equal : RefusedLeavesEqual
-refused_leaves_equal y c m r e = ap (λ x. refused_or x m (grant y c m)) e
