@@ -46,11 +46,7 @@ covered_more s m m' k (x ∷ xs) h e = grind (arith, nat_tests, h x (s.full k), 
 module _ (s : System) (law : Lawful s) where
   -- who stands with a mode stands with what it has in it
   stands_part : (x m part : ℕ) → has s m part ≡ true → s.stands x m ≡ true → s.stands x part ≡ true
-  stands_part x m part h t =
-      let e = eqb-true (s.join m part) m h in
-      (and_parts (s.stands x m) (s.stands x part)
-      (sym (law.stands_join x m part) ∙ ap (s.stands x) e ∙ t)
-      ).1
+  stands_part x m part h t = grind (arith, nat_tests, law.stands_join x m part)
 
   stands_parts : (m part m' part' : ℕ) → has s m part ≡ true → has s m' part' ≡ true → s.stands m m' ≡ true → s.stands part part' ≡ true
   stands_parts m part m' part' h h' t =

@@ -1,5 +1,5 @@
 -- What stays true of a ledger, and of the words and notes that go with it.
-use Rattle.std.proofs.Common.{◌≡◌, ℕ, suc, ◌<◌, ◌≤◌, Bool, true, false, List, [], sym, refl, ap, ◌∙◌, subst, inl, inr, arith}
+use Rattle.std.proofs.Common.{◌≡◌, ℕ, suc, ◌<◌, ◌≤◌, Bool, true, false, List, [], sym, refl, ap, ◌∙◌, inl, inr, arith}
 use Rattle.std.proofs.lemmas.Bool.Decides.{nat_tests}
 use Rattle.std.proofs.lemmas.Bool.{cases_lt, cases_Bool, both_ways}
 use Rattle.modes.specs.Systems.{System, Lawful}
@@ -17,7 +17,7 @@ use Rattle.ledger.proofs.Piles.{put_same, put_other, put_cases}
 use Rattle.ledger.proofs.Runs.{all_weaker}
 use Rattle.ledger.proofs.Orders.{in_turn_ext}
 use Rattle.ledger.proofs.Books.{Good, good_ext}
-use Rattle.ledger.proofs.Wounds.{where_false, where_cases, wound_all}
+use Rattle.ledger.proofs.Wounds.{where_cases, wound_all}
 use Rattle.ledger.proofs.Covers.{covered_more}
 
 -- the steps of a job that are in the words and can still be taken back

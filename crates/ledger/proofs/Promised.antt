@@ -1,5 +1,5 @@
 -- The promise, after any list of calls.
-use Rattle.std.proofs.Common.{◌≡◌, ℕ, suc, ◌<◌, true, ◌⊎◌, List, [], ◌∷◌, ◌++◌, None, sym, refl, ap, subst, arith}
+use Rattle.std.proofs.Common.{◌≡◌, ℕ, suc, ◌<◌, true, ◌⊎◌, List, [], ◌∷◌, ◌++◌, None, sym, refl, subst, arith}
 use Rattle.std.proofs.lemmas.Bool.Decides.{nat_tests}
 use Rattle.modes.specs.Systems.{Lawful}
 use Rattle.shelf.specs.Words.{Fit}
@@ -10,8 +10,8 @@ use Rattle.ledger.specs.declared.call.Call.{Call}
 use Rattle.ledger.specs.Jobs.{is_open, put}
 use Rattle.ledger.specs.Ledgers.{Layout, Ledger, Event, blank, next, written}
 use Rattle.ledger.specs.Promises.{Serial, EachEvent, count_of, in_turn}
-use Rattle.ledger.specs.Models.{Note, nothing, Model, refused_or, grant, fresh, serve, history, served, taken_back}
-use Rattle.ledger.specs.Theorems.{PromiseKept, OldestNeverWaits, EachGoesOn, CoveredDoNotCollide, ArrangesWithout, TakeBackExact, RefusedLeavesEqual}
+use Rattle.ledger.specs.Models.{Note, nothing, Model, fresh, serve, history, served, taken_back}
+use Rattle.ledger.specs.Theorems.{PromiseKept, OldestNeverWaits, EachGoesOn, CoveredDoNotCollide, ArrangesWithout, TakeBackExact}
 use Rattle.ledger.proofs.Runs.{alike_after}
 use Rattle.ledger.proofs.Piles.{pile, Pairwise, pairwise_clear}
 use Rattle.ledger.proofs.Orders.{arranged, in_turn_ext}

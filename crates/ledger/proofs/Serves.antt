@@ -2,7 +2,7 @@
 use Rattle.std.proofs.Common.{◌≡◌, ℕ, zero, suc, ◌<◌, ◌≤◌, Bool, true, false, ◌&&◌, List, [], ◌∷◌, length, length-append, Some, None, Option, sym, refl, ap, ◌∙◌, ap₂, inl, inr, arith}
 use Rattle.std.specs.List.{AllByRecursion}
 use Rattle.std.proofs.lemmas.Bool.Decides.{nat_tests}
-use Rattle.std.proofs.lemmas.Bool.{cases_eq, cases_Bool, both_ways, not-false}
+use Rattle.std.proofs.lemmas.Bool.{cases_Bool, both_ways, not-false}
 use Rattle.modes.specs.Systems.{Lawful}
 use Rattle.shelf.specs.Words.{Fit}
 use Rattle.granules.specs.Paths.{path, records_beneath, among}
@@ -134,12 +134,7 @@ module _ {y : Layout} (law : Lawful y.system) (f : Falls y.parents) {start : Lis
     not_younger k old = grind (arith, nat_tests, old.1 j, open_not_ended (l.jobs.status j))
 
     unhurt : (w : Attempted j o wl (attempt model_hands y j o mo)) (k : ℕ) → Oldest l.jobs k → is_wounded (l.jobs.status k) ≡ false → is_wounded (wl.left.jobs.status k) ≡ false
-    unhurt w k old h =
-        elim (cases_eq k j) [
-          | inl e ↦
-              ap (λ (x : ℕ). is_wounded (wl.left.jobs.status x)) e ∙ ap is_wounded w.state ∙ (tried_open o wl.complete).2
-          | inr e ↦ ap is_wounded (w.older k (omega (arith, not_younger k old))) ∙ h
-        ]
+    unhurt w k old h = grind (arith, nat_tests, w.older k, w.state, not_younger k old, (tried_open o wl.complete).2)
 
     tried_kept : Moved c None (try y j o mo).left (try y j o mo).said (tried y j o (try y j o mo).said l)
     tried_kept =

@@ -1,7 +1,7 @@
 -- A walk keeps what is kept, and if it is completed the job covers the operation.
-use Rattle.std.proofs.Common.{◌≡◌, ℕ, zero, suc, ◌<◌, ◌≤◌, Bool, true, false, ◌&&◌, eqb, ◌⊎◌, List, [], ◌∷◌, ◌++◌, sym, refl, ap, ◌∙◌, subst, inl, inr, arith}
+use Rattle.std.proofs.Common.{◌≡◌, ℕ, zero, suc, ◌<◌, ◌≤◌, Bool, true, false, eqb, ◌⊎◌, List, [], ◌∷◌, ◌++◌, sym, refl, ap, ◌∙◌, subst, inl, inr, arith}
 use Rattle.std.proofs.lemmas.Bool.Decides.{nat_tests}
-use Rattle.std.proofs.lemmas.Bool.{cases_eq, cases_Bool, both_ways, eqb-true, eq-eqb, or_left}
+use Rattle.std.proofs.lemmas.Bool.{cases_eq, cases_Bool, both_ways, eq-eqb, or_left}
 use Rattle.modes.specs.declared.kind.Kind.{Kind}
 use Rattle.modes.specs.Systems.{System, Lawful}
 use Rattle.shelf.specs.Words.{Fit}
@@ -9,13 +9,13 @@ use Rattle.granules.specs.Below.{some_below}
 use Rattle.granules.specs.Paths.{path}
 use Rattle.granules.proofs.Below.{some_at}
 use Rattle.granules.proofs.Climbs.{Falls, path_root, path_step}
-use Rattle.ledger.specs.Jobs.{is_open, is_ended, where_so, raise, put}
+use Rattle.ledger.specs.Jobs.{is_open, is_ended, where_so, raise}
 use Rattle.ledger.specs.Walks.{Hands, Walked, yields, blocks, has, target, walk}
 use Rattle.ledger.specs.Ledgers.{Layout, Ledger, ledger_hands}
 use Rattle.ledger.specs.Collisions.{covered}
 use Rattle.ledger.specs.Models.{Note, nothing, Model, model_hands, all_taken_back}
 use Rattle.ledger.proofs.Piles.{put_same}
-use Rattle.ledger.proofs.Wounds.{where_false, where_true}
+use Rattle.ledger.proofs.Wounds.{where_false, where_cases}
 use Rattle.ledger.proofs.Kept.{Kept, yields_young, blocks_old, stands_or_yields, open_not_ended, in_the_way, wound_kept, raise_kept, has_still}
 
 abbrev pub model_of : Ledger → List ℕ → (ℕ → ℕ → Note) → Model
@@ -61,14 +61,7 @@ module _ (s : System) (law : Lawful s) where
   has_joined m q w = eq-eqb _ _ (law.join_assoc m q q ∙ ap (s.join m) (law.join_same q w))
 
   has_more : (m q part : ℕ) → has s m part ≡ true → has s (s.join m q) part ≡ true
-  has_more m q part h =
-      let e = eqb-true (s.join m part) m h in
-      eq-eqb _ _
-      (law.join_assoc m q part
-      ∙ ap (s.join m) (law.join_comm q part)
-      ∙ sym (law.join_assoc m part q)
-      ∙ ap (λ (x : ℕ). s.join x q) e
-      )
+  has_more m q part h = grind (arith, nat_tests, law.join_assoc m q part, law.join_comm q part, law.join_assoc m part q)
 
   target_rises : (k : Kind) (g x m part : ℕ) → has s m part ≡ true → has s (target s k g x m) part ≡ true
   target_rises k g x m part h = grind (arith, nat_tests, has_more m (s.full k) part h, has_more m (s.intent k) part h)
@@ -137,9 +130,7 @@ module _ {y : Layout} (law : Lawful y.system) {start : List ℕ} (fits : Fit sta
 
     -- who is in the way is open
     way_open : (i : ℕ) → y.system.stands (l.jobs.mode i x) wants ≡ false → is_open (l.jobs.status i) ≡ true
-    way_open i e =
-        elim (cases_Bool (is_open (l.jobs.status i)))
-        [ inl o ↦ o | inr o ↦ absurd (in_the_way y.system law l.jobs a x wants i e (kept.idle i x o)) ]
+    way_open i e = grind (arith, nat_tests, in_the_way y.system law l.jobs a x wants i e, kept.idle i x)
 
     hurt_open : (i : ℕ) → hurt i ≡ true → is_open (l.jobs.status i) ≡ true
     hurt_open i e = way_open i (yields_young y.system law l.jobs a x wants i e).1
@@ -157,7 +148,7 @@ module _ {y : Layout} (law : Lawful y.system) {start : List ℕ} (fits : Fit sta
     mode₁ = where_false hurt (λ _. 0) l.jobs.mode a asker_spared
 
     still₁ : (z part : ℕ) → has y.system (l.jobs.mode a z) part ≡ true → has y.system (ledger₁.jobs.mode a z) part ≡ true
-    still₁ z part h = ap (λ (f : ℕ → ℕ). has y.system (f z) part) mode₁ ∙ h
+    still₁ z part h = rw mode₁ h
 
     on_stop :
         some_below a (blocks y.system l.jobs a x wants) ≡ true
@@ -179,31 +170,41 @@ module _ {y : Layout} (law : Lawful y.system) {start : List ℕ} (fits : Fit sta
           covers = λ c. absurd (both_ways false refl c);
         }
 
-    -- the same target needs nothing: the intent is there, and this is not yet the last granule
-    on_same :
-        (wl : Walked Ledger) (wm : Walked Model) → eqb wants (l.jobs.mode a x) ≡ true → Stepped y start k a l xs wl wm
-        → Stepped y start k a l (x ∷ xs) wl wm
-    on_same wl wm same next =
-        let m = l.jobs.mode a x in
-        let s = y.system in
-        let above : x ≡ g → ⊥ = λ e. absurd (grind (arith, nat_tests)) in
-        let intent : has s m (s.intent k) ≡ true = grind (arith, nat_tests) in
+    -- the rest of the way, from a ledger in which the job has all that it had, and here what it is to have
+    onward :
+        (l' : Ledger) → ((i : ℕ) → i ≤ a → l'.jobs.status i ≡ l.jobs.status i)
+        → ((z part : ℕ) → has y.system (l.jobs.mode a z) part ≡ true → has y.system (l'.jobs.mode a z) part ≡ true)
+        → (x ≡ g → has y.system (l'.jobs.mode a x) (y.system.full k) ≡ true)
+        → ((x ≡ g → ⊥) → has y.system (l'.jobs.mode a x) (y.system.intent k) ≡ true) → (wl : Walked Ledger) (wm : Walked Model)
+        → Stepped y start k a l' xs wl wm → Stepped y start k a l (x ∷ xs) wl wm
+    onward l' same more there above wl wm next =
         record {
           words = next.words;
           notes = next.notes;
           model = next.model;
           complete = next.complete;
           kept = next.kept;
-          older = next.older;
-          stopped = next.stopped;
-          still = next.still;
+          older = λ i h. next.older i h ∙ same i h;
+          stopped = λ c. let b = next.stopped c in (b.0, b.1, rw (← same b.0 (omega (arith, b.1))) b.2);
+          still = λ z part h. next.still z part (more z part h);
           covers =
               λ c.
-              elim (next.covers c) [
-                | inl rest ↦ inl (grind (arith, nat_tests, next.still x (s.intent k) intent))
-                | inr nil ↦ absurd (above (ends_last g x xs ends nil))
+              elim (cases_eq x g) [
+                | inl e ↦ inl (grind (arith, nat_tests, next.still x (y.system.full k) (there e)))
+                | inr e ↦
+                    elim (next.covers c) [
+                      | inl rest ↦ inl (grind (arith, nat_tests, next.still x (y.system.intent k) (above e)))
+                      | inr nil ↦ absurd (e (ends_last g x xs ends nil))
+                    ]
               ];
         }
+
+    -- the same target needs nothing: the intent is there, and this is not yet the last granule
+    on_same :
+        (wl : Walked Ledger) (wm : Walked Model) → eqb wants (l.jobs.mode a x) ≡ true → Stepped y start k a l xs wl wm
+        → Stepped y start k a l (x ∷ xs) wl wm
+    on_same wl wm same next =
+        onward l (λ i h. refl) (λ z part h. h) (λ e. grind (arith, nat_tests)) (λ e. grind (arith, nat_tests)) wl wm next
 
     -- nobody is in the way: the target becomes its mode
     module _ (free : some_below a (blocks y.system l.jobs a x wants) ≡ false) where
@@ -215,62 +216,25 @@ module _ {y : Layout} (law : Lawful y.system) {start : List ℕ} (fits : Fit sta
 
       alone₁ : (i : ℕ) → (i ≡ a → ⊥) → y.system.stands (ledger₁.jobs.mode i x) wants ≡ true
       alone₁ i d =
-          elim (cases_Bool (hurt i)) [
-            | inl e ↦
-                ap (λ (f : ℕ → ℕ). y.system.stands (f x) wants) (where_true hurt (λ _. 0) l.jobs.mode i e) ∙ law.stands_none wants
-            | inr e ↦
-                ap (λ (f : ℕ → ℕ). y.system.stands (f x) wants) (where_false hurt (λ _. 0) l.jobs.mode i e)
-                ∙ stands_or_yields y.system law l.jobs a x wants free i d e
-          ]
+          where_cases (λ f. y.system.stands (f x) wants ≡ true) hurt (λ _. 0) l.jobs.mode i (λ _. law.stands_none wants)
+          (stands_or_yields y.system law l.jobs a x wants free i d)
 
       rises₁ : (part : ℕ) → has y.system (ledger₁.jobs.mode a x) part ≡ true → has y.system wants part ≡ true
-      rises₁ part h =
-          target_rises y.system law k g x (l.jobs.mode a x) part
-          (ap (λ (f : ℕ → ℕ). has y.system (f x) part) (sym mode₁) ∙ h)
+      rises₁ part h = target_rises y.system law k g x (l.jobs.mode a x) part (rw mode₁ at h)
 
       kept₂ : Kept y start ledger₂ words₁ notes₁
       kept₂ = raise_kept law fits kept₁ a x wants open₁ alone₁ rises₁
 
       mode₂ : ledger₂.jobs.mode a x ≡ wants
-      mode₂ =
-          ap (λ (f : ℕ → ℕ). f x) (put_same a (put x wants (ledger₁.jobs.mode a)) ledger₁.jobs.mode)
-          ∙ put_same x wants (ledger₁.jobs.mode a)
+      mode₂ = rw put_same (put_same x wants (ledger₁.jobs.mode a))
 
       on_go : (wl : Walked Ledger) (wm : Walked Model) → Stepped y start k a ledger₂ xs wl wm → Stepped y start k a l (x ∷ xs) wl wm
       on_go wl wm next =
-          let s = y.system in
-          let m = l.jobs.mode a x in
-          let m' = wl.left.jobs.mode a in
-          let rest_of = has s (m' x) (s.intent k) && covered s m' k xs in
-          record {
-            words = next.words;
-            notes = next.notes;
-            model = next.model;
-            complete = next.complete;
-            kept = next.kept;
-            older = λ i h. next.older i h ∙ older₁ i h;
-            stopped =
-                λ c.
-                let b = next.stopped c in
-                (b.0, b.1, ap is_ended (sym (older₁ b.0 (omega (arith, b.1)))) ∙ b.2);
-            still =
-                λ z part h.
-                next.still z part
-                (has_still law fits kept₁ a x wants open₁ alone₁ rises₁ z part (still₁ z part h));
-            covers =
-                λ c.
-                elim (cases_eq x g) [
-                  | inl e ↦
-                      let full_there : has s wants (s.full k) ≡ true = rw (target_at s k g x m e) (has_joined s law m (s.full k) (law.full_within k)) in
-                      inl (grind (arith, nat_tests, next.still x (s.full k) (rw mode₂ full_there)))
-                  | inr e ↦
-                      let intent_there : has s wants (s.intent k) ≡ true = rw (target_above s k g x m e) (has_joined s law m (s.intent k) (law.intent_within k)) in
-                      elim (next.covers c) [
-                        | inl rest ↦ inl (grind (arith, nat_tests, next.still x (s.intent k) (rw mode₂ intent_there)))
-                        | inr nil ↦ absurd (e (ends_last g x xs ends nil))
-                      ]
-                ];
-          }
+          onward ledger₂ older₁
+          (λ z part h. has_still law fits kept₁ a x wants open₁ alone₁ rises₁ z part (still₁ z part h))
+          (λ e. rw (mode₂, target_at y.system k g x (l.jobs.mode a x) e) (has_joined y.system law _ _ (law.full_within k)))
+          (λ e. rw (mode₂, target_above y.system k g x (l.jobs.mode a x) e) (has_joined y.system law _ _ (law.intent_within k)))
+          wl wm next
 
   -- a walk that is complete where it stands
   done :
