@@ -1,6 +1,7 @@
 -- Runs of steps: cut, joined, moved past one another, and what they do to one place.
 use Rattle.std.proofs.Common.{◌≡◌, ℕ, ◌<◌, List, [], ◌∷◌, ◌++◌, length, get_or, sym, refl, ap, ◌∙◌, append-nil, subst, arith}
 use Rattle.std.specs.List.{AllByRecursion}
+use Rattle.std.proofs.lemmas.List.Elements.{All-weaker, All-append, All-from_recursion, recursion_from_All}
 use Rattle.operations.specs.Words.{after, left_at}
 use Rattle.operations.specs.Alone.{Step, Alone}
 use Rattle.ledger.specs.Collisions.{Apart, ListsApart}
@@ -11,15 +12,13 @@ abbrev pub effect : List ℕ → List Step → ℕ → ℕ → ℕ
 effect ps [] r w = w
 effect ps (s ∷ ss) r w = effect ps ss r (left_at ps s.0 r w)
 
--- what holds of each element holds of each in a weaker form, and of a list put together if of its parts
+-- std's lemmas on `All`, for the same fact by recursion on the list
 pub all_weaker :
     {X : Type 0} {P Q : X → Type 0} → ((x : X) → P x → Q x) → (xs : List X) → AllByRecursion P xs → AllByRecursion Q xs
-all_weaker f [] h = tt
-all_weaker f (x ∷ xs) h = (f x h.0, all_weaker f xs h.1)
+all_weaker {P = P} {Q = Q} f xs h = recursion_from_All Q xs (All-weaker P Q f xs (All-from_recursion P xs h))
 
 pub all_++ : {X : Type 0} (P : X → Type 0) (xs ys : List X) → AllByRecursion P xs → AllByRecursion P ys → AllByRecursion P (xs ++ ys)
-all_++ P [] ys h k = k
-all_++ P (x ∷ xs) ys h k = (h.0, all_++ P xs ys h.1 k)
+all_++ P xs ys h k = recursion_from_All P (xs ++ ys) (All-append P xs ys (All-from_recursion P xs h) (All-from_recursion P ys k))
 
 module _ (ps : List ℕ) where
   pub split :

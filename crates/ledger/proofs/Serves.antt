@@ -23,7 +23,7 @@ use Rattle.ledger.specs.Walks.{Walked, walk}
 use Rattle.ledger.specs.Ledgers.{Layout, Ledger, facts, wanted, attempt, ledger_hands, noting, note_step, tried, granted, unless_refused, next}
 use Rattle.ledger.specs.Promises.{Shaped, Operated, Granted, ByRefusal, Oldest}
 use Rattle.ledger.specs.Collisions.{covered}
-use Rattle.ledger.specs.Models.{Note, nothing, Model, Served, model_hands, carried, try, grant, refused_or, serve}
+use Rattle.ledger.specs.Models.{Note, Model, Served, model_hands, carried, try, grant, refused_or, serve}
 use Rattle.ledger.proofs.Piles.{put_same, put_other}
 use Rattle.ledger.proofs.Kept.{Kept, live_open, live_shut, open_not_ended}
 use Rattle.ledger.proofs.Walking.{model_of, walk_kept, path_ends}
@@ -44,9 +44,6 @@ pick_false b x z e = rw e
 -- which states are left when some are ruled out
 still_open : (st : Status) → is_ended st ≡ false → is_wounded st ≡ false → is_open st ≡ true
 still_open st a b = grind (arith, nat_tests)
-
-wounded_lives : (st : Status) → is_wounded st ≡ true → (is_ended st ≡ false) × (is_open st ≡ false)
-wounded_lives st e = (grind (arith, nat_tests), grind (arith, nat_tests))
 
 -- the state after an attempt is open
 abbrev tried_state : Operation → Bool → Status
@@ -190,67 +187,36 @@ module _ {y : Layout} (law : Lawful y.system) (f : Falls y.parents) {start : Lis
   spared : (j : ℕ) (st : Status) → is_wounded st ≡ false → (k : ℕ) → is_wounded (l.jobs.status k) ≡ false → is_wounded (put j st l.jobs.status k) ≡ false
   spared j st w k h = grind (arith, nat_tests)
 
+  -- a call that wounds nobody and is not answered `waits`
+  plain :
+      (c : Call) (r : Option Refusal) (said : Answer) {l' : Ledger} {ws' : List ℕ} {notes₂ : ℕ → ℕ → Note} → Kept y start l' ws' notes₂
+      → ByRefusal r said (Granted y l c said) → (said ≡ Waits → ⊥)
+      → ((k : ℕ) → is_wounded (l.jobs.status k) ≡ false → is_wounded (l'.jobs.status k) ≡ false) → Moved c r (model_of l' ws' notes₂) said l'
+  plain c r said keeps right answered spares =
+      record { words = _; notes' = _; model = refl; keeps = keeps; right = right; oldest = λ k old. (spares k, λ who. answered) }
+
   granted_kept :
       (c : Call) → NoRow c
       → Moved c None (grant y c (model_of l ws notes)).left (grant y c (model_of l ws notes)).said
       (granted y c (grant y c (model_of l ws notes)).said l)
   granted_kept (Lay parents words) none = absurd (both_ways true none.1.1.1.1.1.1.1.1.1.0 refl)
-  granted_kept Open none =
-      record {
-        words = ws;
-        notes' = notes;
-        model = refl;
-        keeps = open_kept law fit kept;
-        right = refl;
-        oldest =
-            λ k old.
-            (spared (suc l.jobs.opened) working refl k, λ who said. cc);
-      }
+  granted_kept Open none = plain Open None _ (open_kept law fit kept) refl (λ w. cc) (spared (suc l.jobs.opened) working refl)
   granted_kept (Carry j o) none =
       tried_kept (Carry j o) j o (still_open (l.jobs.status j) none.1.1.1.0 none.1.1.1.1.0) refl (λ said h. h)
   granted_kept (Go j) none =
       tried_kept (Go j) j (wanted (l.jobs.status j)) (still_open (l.jobs.status j) none.1.1.1.0 none.1.1.1.1.0) refl (λ said h. h)
   granted_kept (Again j) none =
       let w = not-false (is_wounded (l.jobs.status j)) none.1.1.1.1.1.1.1.1.0 in
-      let lives = wounded_lives (l.jobs.status j) w in
-      record {
-        words = ws;
-        notes' = notes;
-        model = refl;
-        keeps =
-            turn_kept law fit kept j working lives.0 refl refl refl (live_shut l j lives.1 ∙ sym (kept.clean j w));
-        right = refl;
-        oldest = λ k old. (spared j working refl k, λ who said. cc);
-      }
+      let shut : is_open (l.jobs.status j) ≡ false = grind (arith, nat_tests) in
+      plain (Again j) None _
+      (turn_kept law fit kept j working (grind (arith, nat_tests)) refl refl refl (live_shut l j shut ∙ sym (kept.clean j w))) refl
+      (λ w. cc) (spared j working refl)
   granted_kept (Commit j) none =
-      record {
-        words = ws;
-        notes' = put j (λ _. nothing) notes;
-        model = refl;
-        keeps =
-            commit_kept law fit kept j none.1.1.1.0
-            (still_open (l.jobs.status j) none.1.1.1.0 none.1.1.1.1.0);
-        right = refl;
-        oldest = λ k old. (spared j ended refl k, λ who said. cc);
-      }
+      plain (Commit j) None _ (commit_kept law fit kept j none.1.1.1.0 (still_open (l.jobs.status j) none.1.1.1.0 none.1.1.1.1.0)) refl
+      (λ w. cc) (spared j ended refl)
   granted_kept (GiveUp j) none =
-      record {
-        words = _;
-        notes' = put j (λ _. nothing) notes;
-        model = refl;
-        keeps = giveup_kept law fit kept j none.1.1.1.0;
-        right = refl;
-        oldest = λ k old. (spared j ended refl k, λ who said. cc);
-      }
-  granted_kept (Look g) none =
-      record {
-        words = ws;
-        notes' = notes;
-        model = refl;
-        keeps = kept;
-        right = refl;
-        oldest = λ k old. ((λ h. h), λ who said. cc);
-      }
+      plain (GiveUp j) None _ (giveup_kept law fit kept j none.1.1.1.0) refl (λ w. cc) (spared j ended refl)
+  granted_kept (Look g) none = plain (Look g) None _ kept refl (λ w. cc) (λ k h. h)
 
   -- A call, refused or not.
   pub served_kept :
@@ -264,13 +230,5 @@ module _ {y : Layout} (law : Lawful y.system) (f : Falls y.parents) {start : Lis
           → Moved c r (refused_or r (model_of l ws notes) (grant y c (model_of l ws notes))).left
           (refused_or r (model_of l ws notes) (grant y c (model_of l ws notes))).said
           (unless_refused r l (granted y c (refused_or r (model_of l ws notes) (grant y c (model_of l ws notes))).said l))
-      by_row (Some r) e =
-          record {
-            words = ws;
-            notes' = notes;
-            model = refl;
-            keeps = kept;
-            right = refl;
-            oldest = λ k old. ((λ h. h), λ who said. cc);
-          }
+      by_row (Some r) e = plain c (Some r) _ kept refl (λ w. cc) (λ k h. h)
       by_row None e = granted_kept c (first_none (λ r. among (number r) (can_meet c) && fits (facts y l.jobs) c r) rows e)
