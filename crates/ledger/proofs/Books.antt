@@ -3,17 +3,15 @@
 use Rattle.std.proofs.Common.{◌≡◌, ℕ, suc, ◌+◌, ◌%◌, ◌<◌, ◌≤◌, Bool, true, false, ◌&&◌, ◌||◌, List, [], ◌∷◌, ◌++◌, length, get_or, sym, refl, ap, ◌∙◌, subst, inl, inr, append_assoc, append-nil, arith}
 use mathlib.Core.Path.{fun_ext}
 use Rattle.std.specs.List.{AllByRecursion}
+use Rattle.std.proofs.lemmas.Bool.Decides.{nat_tests}
 use Rattle.std.proofs.lemmas.List.{ext_get_or, get_or_past}
-use Rattle.std.proofs.lemmas.Bool.{cases_eq, cases_lt, cases_Bool, and_parts, or_cases, or_left, or_right, and_from, both_ways}
-use Rattle.modes.specs.declared.kind.Kind.{Kind}
-use Rattle.modes.specs.declared.kind.Kind.TheVariants.{Set as Setting, Read as Reading, Add as Adding}
-use Rattle.modes.specs.Kinds.{commutes}
+use Rattle.std.proofs.lemmas.Bool.{cases_lt, cases_Bool}
 use Rattle.shelf.specs.Words.{Fit}
 use Rattle.granules.specs.Paths.{record_beneath}
 use Rattle.operations.specs.declared.operation.Action.{Action}
 use Rattle.operations.specs.declared.operation.Action.TheVariants.{Read, Mean, Set, Add}
 use Rattle.operations.specs.declared.operation.Operation.{Operation}
-use Rattle.operations.specs.Actions.{kind, changed}
+use Rattle.operations.specs.Actions.{changed}
 use Rattle.operations.specs.Words.{answer, after, left_at}
 use Rattle.operations.specs.Alone.{Step, Alone}
 use Rattle.operations.proofs.Places.{length_each, get_or_each}
@@ -23,7 +21,7 @@ use Rattle.ledger.specs.Jobs.{put}
 use Rattle.ledger.specs.Models.{Note, nothing, added, put_back, back, noted, noted_add, taken_back}
 use Rattle.ledger.proofs.Swaps.{left_in, left_out, length_after, word_after}
 use Rattle.ledger.proofs.Runs.{effect, split, join, same_end, alike_after, effect_++, run_length, run_at, apart_one, apart_push, apart_sym}
-use Rattle.ledger.proofs.Piles.{put_same, put_at, put_other, pile, pile_ext, Pairwise, pairwise_clear, last, first}
+use Rattle.ledger.proofs.Piles.{put_same, put_at, put_other, put_cases, pile, pile_ext, Pairwise, pairwise_clear, last, first}
 
 -- a step that sets a record
 abbrev pub is_set : Action → Bool
@@ -36,35 +34,15 @@ abbrev pub sets_at : List ℕ → ℕ → List Step → Bool
 sets_at ps r [] = false
 sets_at ps r (s ∷ ss) = (is_set s.0.action && record_beneath ps s.0.granule r) || sets_at ps r ss
 
-pub sets_left : (ps : List ℕ) (r : ℕ) (xs ys : List Step) → sets_at ps r xs ≡ true → sets_at ps r (xs ++ ys) ≡ true
-sets_left ps r [] ys e = absurd (both_ways false refl e)
-sets_left ps r (x ∷ xs) ys e =
-    elim (or_cases (is_set x.0.action && record_beneath ps x.0.granule r) (sets_at ps r xs) e) [
-      | inl a ↦ or_left (is_set x.0.action && record_beneath ps x.0.granule r) (sets_at ps r (xs ++ ys)) a
-      | inr a ↦ or_right (is_set x.0.action && record_beneath ps x.0.granule r) (sets_at ps r (xs ++ ys)) (sets_left ps r xs ys a)
-    ]
-
-pub sets_right : (ps : List ℕ) (r : ℕ) (xs ys : List Step) → sets_at ps r ys ≡ true → sets_at ps r (xs ++ ys) ≡ true
-sets_right ps r [] ys e = e
-sets_right ps r (x ∷ xs) ys e =
-    or_right (is_set x.0.action && record_beneath ps x.0.granule r) (sets_at ps r (xs ++ ys)) (sets_right ps r xs ys e)
-
--- An operation carried out leaves each word within 32 bits.
-changed_fits : (a : Action) (w : ℕ) → w < 4294967296 → changed a w < 4294967296
-changed_fits Read w h = h
-changed_fits Mean w h = h
-changed_fits (Set n) w h = omega arith
-changed_fits (Add n) w h = omega arith
+pub sets_++ : (ps : List ℕ) (r : ℕ) (xs ys : List Step) → sets_at ps r (xs ++ ys) ≡ (sets_at ps r xs || sets_at ps r ys)
+sets_++ ps r [] ys = refl
+sets_++ ps r (x ∷ xs) ys = grind (arith, nat_tests, sets_++ ps r xs ys)
 
 module _ (ps : List ℕ) where
+  -- An operation carried out leaves each word within 32 bits.
   effect_fits : (ss : List Step) (r w : ℕ) → w < 4294967296 → effect ps ss r w < 4294967296
   effect_fits [] r w h = h
-  effect_fits (s ∷ ss) r w h =
-      effect_fits ss r (left_at ps s.0 r w)
-      (elim (cases_Bool (record_beneath ps s.0.granule r)) [
-        | inl e ↦ subst (λ (x : ℕ). x < 4294967296) (sym (left_in ps s.0 r w e)) (changed_fits s.0.action w h)
-        | inr e ↦ subst (λ (x : ℕ). x < 4294967296) (sym (left_out ps s.0 r w e)) h
-      ])
+  effect_fits (s ∷ ss) r w h = effect_fits ss r (left_at ps s.0 r w) (grind (arith, nat_tests))
 
   pub run_fits : (ss : List Step) (ws out : List ℕ) → Fit ws → Alone ps ws ss out → Fit out
   run_fits ss ws out f a r =
@@ -73,36 +51,12 @@ module _ (ps : List ℕ) where
         | inr l ↦ omega (arith, get_or_past out r 0 (omega (arith, run_length ps ss ws out a)))
       ]
 
-  -- nothing commutes with a set
-  set_alone : (k : Kind) → commutes Setting k ≡ true → ⊥
-  set_alone Reading e = both_ways false refl e
-  set_alone Setting e = both_ways false refl e
-  set_alone Adding e = both_ways false refl e
-
-  set_kind : (a : Action) → is_set a ≡ true → kind a ≡ Setting
-  set_kind Read e = absurd (both_ways false refl e)
-  set_kind Mean e = absurd (both_ways false refl e)
-  set_kind (Set w) e = refl
-  set_kind (Add w) e = absurd (both_ways false refl e)
-
   -- where one job has set, an operation that is apart from it does not reach
   pub set_shuts :
       (ss : List Step) (r : ℕ) (o : Operation) → sets_at ps r ss ≡ true → AllByRecursion (λ s. Apart ps s.0 o) ss
       → record_beneath ps o.granule r ≡ false
-  set_shuts [] r o e h = absurd (both_ways false refl e)
-  set_shuts (s ∷ ss) r o e h =
-      elim (or_cases (is_set s.0.action && record_beneath ps s.0.granule r) (sets_at ps r ss) e) [
-        | inl a ↦
-            let p = and_parts (is_set s.0.action) (record_beneath ps s.0.granule r) a in
-            elim (cases_Bool (record_beneath ps o.granule r)) [
-              | inl b ↦
-                  absurd
-                  (set_alone (kind o.action)
-                  (ap (λ (k : Kind). commutes k (kind o.action)) (sym (set_kind s.0.action p.0)) ∙ h.0 r p.1 b))
-              | inr b ↦ b
-            ]
-        | inr a ↦ set_shuts ss r o a h.1
-      ]
+  set_shuts [] r o e h = cc
+  set_shuts (s ∷ ss) r o e h = grind (arith, nat_tests, h.0 r, set_shuts ss r o)
 
   -- nor does a list of them
   pub set_shuts_all :
@@ -131,23 +85,6 @@ pub record Good (ps start : List ℕ) (done : List Step) (live : ℕ → List St
   pub serial : Alone ps start (done ++ pile live n) ws
   pub right : (k r : ℕ) → r < length ws → RightNote ps start done live n k r (notes k r)
 
-put_put : (j k : ℕ) (f : ℕ → List Step) (i : ℕ) → put j [] (put k [] f) i ≡ put k [] (put j [] f) i
-put_put j k f i =
-    elim (cases_eq i j) [
-      | inl a ↦
-          put_at j [] (put k [] f) i a
-          ∙ elim (cases_eq i k) [
-            | inl b ↦ sym (put_at k [] (put j [] f) i b)
-            | inr b ↦ sym (put_other k [] (put j [] f) i b ∙ put_at j [] f i a)
-          ]
-      | inr a ↦
-          put_other j [] (put k [] f) i a
-          ∙ elim (cases_eq i k) [
-            | inl b ↦ put_at k [] f i b ∙ sym (put_at k [] (put j [] f) i b)
-            | inr b ↦ put_other k [] f i b ∙ sym (put_other k [] (put j [] f) i b ∙ put_other j [] f i a)
-          ]
-    ]
-
 module _ (ps start : List ℕ) (fits : Fit start) where
   -- the run with one job last: what the others leave, and what it does to that
   apart_from :
@@ -156,13 +93,8 @@ module _ (ps start : List ℕ) (fits : Fit start) where
       → (mid : List ℕ) × Alone ps start (done ++ pile (put k [] live) n) mid × Alone ps mid (live k) ws
   apart_from done live n ws h a k l =
       let g = put k [] live in
-      let b = subst (λ (xs : List Step). Alone ps start (done ++ xs) ws) (sym (append-nil (pile live n))) a in
-      let c = alike_after ps done (pile live n ++ []) (pile g n ++ (live k ++ [])) (last ps live h k n l []).0 start ws b in
-      let d : Alone ps start ((done ++ pile g n) ++ live k) ws =
-      subst (λ (xs : List Step). Alone ps start xs ws)
-      (ap (λ (xs : List Step). done ++ (pile g n ++ xs)) (append-nil (live k)) ∙ sym (append_assoc done (pile g n) (live k))) c
-      in
-      split ps (done ++ pile g n) (live k) start ws d
+      let moved = alike_after ps done (pile live n) (pile g n ++ live k) (last ps live h k n l).0 start ws a in
+      split ps (done ++ pile g n) (live k) start ws (rw append_assoc moved)
 
   -- and back again
   together :
@@ -170,36 +102,21 @@ module _ (ps start : List ℕ) (fits : Fit start) where
       → Alone ps start (done ++ pile (put k [] live) n) mid → Alone ps mid (live k) ws → Alone ps start (done ++ pile live n) ws
   together done live n mid ws h k l a b =
       let g = put k [] live in
-      let c = join ps (done ++ pile g n) (live k) start mid ws a b in
-      let d : Alone ps start (done ++ (pile g n ++ (live k ++ []))) ws =
-      subst (λ (xs : List Step). Alone ps start xs ws)
-      (append_assoc done (pile g n) (live k) ∙ ap (λ (xs : List Step). done ++ (pile g n ++ xs)) (sym (append-nil (live k)))) c
-      in
-      subst (λ (xs : List Step). Alone ps start (done ++ xs) ws) (append-nil (pile live n))
-      (alike_after ps done (pile g n ++ (live k ++ [])) (pile live n ++ []) (last ps live h k n l []).1 start ws d)
+      alike_after ps done (pile g n ++ live k) (pile live n) (last ps live h k n l).1 start ws
+      (rw append_assoc at (join ps (done ++ pile g n) (live k) start mid ws a b))
 
   -- the run with one job's steps before those of the others, and back again
   to_front :
       (done : List Step) (live : ℕ → List Step) (n : ℕ) (ws : List ℕ) → Pairwise ps live → (k : ℕ) → k < n
       → Alone ps start (done ++ pile live n) ws → Alone ps start ((done ++ live k) ++ pile (put k [] live) n) ws
   to_front done live n ws h k l a =
-      let g = put k [] live in
-      let b = subst (λ (xs : List Step). Alone ps start (done ++ xs) ws) (sym (append-nil (pile live n))) a in
-      subst (λ (xs : List Step). Alone ps start xs ws)
-      (ap (λ (xs : List Step). done ++ (live k ++ xs)) (append-nil (pile g n)) ∙ sym (append_assoc done (live k) (pile g n)))
-      (alike_after ps done (pile live n ++ []) (live k ++ (pile g n ++ [])) (first ps live h k n l []).0 start ws b)
+      rw append_assoc (alike_after ps done (pile live n) (live k ++ pile (put k [] live) n) (first ps live h k n l).0 start ws a)
 
   from_front :
       (done : List Step) (live : ℕ → List Step) (n : ℕ) (ws : List ℕ) → Pairwise ps live → (k : ℕ) → k < n
       → Alone ps start ((done ++ live k) ++ pile (put k [] live) n) ws → Alone ps start (done ++ pile live n) ws
   from_front done live n ws h k l a =
-      let g = put k [] live in
-      let b : Alone ps start (done ++ (live k ++ (pile g n ++ []))) ws =
-      subst (λ (xs : List Step). Alone ps start xs ws)
-      (append_assoc done (live k) (pile g n) ∙ ap (λ (xs : List Step). done ++ (live k ++ xs)) (sym (append-nil (pile g n)))) a
-      in
-      subst (λ (xs : List Step). Alone ps start (done ++ xs) ws) (append-nil (pile live n))
-      (alike_after ps done (live k ++ (pile g n ++ [])) (pile live n ++ []) (first ps live h k n l []).1 start ws b)
+      alike_after ps done (live k ++ pile (put k [] live) n) (pile live n) (first ps live h k n l).1 start ws (rw append_assoc at a)
 
   -- a right note gives back the word of the others
   back_right :
@@ -213,7 +130,7 @@ module _ (ps start : List ℕ) (fits : Fit start) where
       omega (arith, h.0)
   back_right done live n k r (put_back v) mid w h a f e = h.1 mid a
 
-  module _ (done : List Step) (live : ℕ → List Step) (n : ℕ) (ws : List ℕ) (notes : ℕ → ℕ → Note)
+  module _ {done : List Step} {live : ℕ → List Step} {n : ℕ} {ws : List ℕ} {notes : ℕ → ℕ → Note}
       (good : Good ps start done live n ws notes) where
     -- To take a job back gives exactly the words of the others.
     pub without : (k : ℕ) → k < n → Alone ps start (done ++ pile (put k [] live) n) (taken_back (notes k) ws)
@@ -252,119 +169,88 @@ module _ (ps start : List ℕ) (fits : Fit start) where
 
   -- the same books under other names of the same functions
   pub good_ext :
-      (done : List Step) (live live' : ℕ → List Step) (n : ℕ) (ws : List ℕ) (notes notes' : ℕ → ℕ → Note) → ((k : ℕ) → live k ≡ live' k)
+      {done : List Step} {live live' : ℕ → List Step} {n : ℕ} {ws : List ℕ} {notes notes' : ℕ → ℕ → Note} → ((k : ℕ) → live k ≡ live' k)
       → ((k : ℕ) → notes k ≡ notes' k) → Good ps start done live n ws notes → Good ps start done live' n ws notes'
-  good_ext done live live' n ws notes notes' e d g =
-      subst (λ (x : ℕ → ℕ → Note). Good ps start done live' n ws x) (fun_ext d)
-      (subst (λ (x : ℕ → List Step). Good ps start done x n ws notes) (fun_ext e) g)
+  good_ext e d g = rw (← fun_ext d, ← fun_ext e) g
 
-  module _ (done : List Step) (live : ℕ → List Step) (n : ℕ) (ws : List ℕ) (notes : ℕ → ℕ → Note)
+  module _ {done : List Step} {live : ℕ → List Step} {n : ℕ} {ws : List ℕ} {notes : ℕ → ℕ → Note}
       (good : Good ps start done live n ws notes) where
     inside : (k r : ℕ) → sets_at ps r (live k) ≡ true → k < n
-    inside k r e =
-        elim (cases_lt k n)
-        [ inl l ↦ l | inr l ↦ absurd (both_ways false refl (sym (ap (sets_at ps r) (good.beyond k l)) ∙ e)) ]
+    inside k r e = elim (cases_lt k n) [ inl l ↦ l | inr l ↦ absurd (let none = good.beyond k l in grind (arith, nat_tests)) ]
+
+    -- Job k without its steps and notes, whatever is done with them: the notes of the others stay right if, where one of them
+    -- has set, what the rest leave stays what it was.
+    drop_one :
+        (k : ℕ) (done' : List Step) (ws' : List ℕ) → length ws' ≡ length ws → Alone ps start (done' ++ pile (put k [] live) n) ws'
+        → ((j r : ℕ) → (j ≡ k → ⊥) → r < length ws → sets_at ps r (live j) ≡ true → (mid : List ℕ)
+        → Alone ps start (done' ++ pile (put k [] (put j [] live)) n) mid
+        → (old : List ℕ) × Alone ps start (done ++ pile (put j [] live) n) old × (get_or old r 0 ≡ get_or mid r 0))
+        → Good ps start done' (put k [] live) n ws' (put k (λ _. nothing) notes)
+    drop_one k done' ws' long run rest =
+        let g = put k [] live in
+        record {
+          pairwise = pairwise_clear ps live good.pairwise k;
+          beyond = λ j h. put_cases (λ xs. xs ≡ []) k [] live j (λ _. refl) (λ _. good.beyond j h);
+          serial = run;
+          right =
+              λ j r h.
+              let within : r < length ws = omega arith in
+              put_cases (λ x. RightNote ps start done' g n j r (x r)) k (λ _. nothing) notes j
+              (λ e. blank_note done' g n j r (put_at k [] live j e))
+              (λ e.
+              carry_over done done' live g n n j r (notes j r) (put_other k [] live j e)
+              (λ mid set a.
+              let again : pile (put j [] g) n ≡ pile (put k [] (put j [] live)) n =
+              pile_ext (put j [] g) (put k [] (put j [] live)) n (λ i _. grind (arith, nat_tests))
+              in
+              rest j r e within set mid (rw (← again) a))
+              (good.right j r within));
+        }
 
     -- One job taken back.
     pub clear_one : (k : ℕ) → k < n → Good ps start done (put k [] live) n (taken_back (notes k) ws) (put k (λ _. nothing) notes)
     clear_one k l =
-        let g = put k [] live in
-        let long : length (taken_back (notes k) ws) ≡ length ws = length_each 0 (λ r w. back (notes k r) w) ws in
-        record {
-          pairwise = pairwise_clear ps live good.pairwise k;
-          beyond =
-              λ j h. put_other k [] live j (λ (z : j ≡ k). omega arith) ∙ good.beyond j h;
-          serial = without done live n ws notes good k l;
-          right =
-              λ j r h.
-              elim (cases_eq j k) [
-                | inl e ↦
-                    subst (λ (x : ℕ → Note). RightNote ps start done g n j r (x r)) (sym (put_at k (λ _. nothing) notes j e))
-                    (blank_note done g n j r (put_at k [] live j e))
-                | inr e ↦
-                    subst (λ (x : ℕ → Note). RightNote ps start done g n j r (x r)) (sym (put_other k (λ _. nothing) notes j e))
-                    (carry_over done done live g n n j r (notes j r) (put_other k [] live j e)
-                    (λ mid set a.
-                    let f = put j [] live in
-                    let p = apart_from done live n ws good.pairwise good.serial j (inside j r set) in
-                    let q = apart_from done f n p.0 (pairwise_clear ps live good.pairwise j) p.1 k l in
-                    let here : f k ≡ live k = put_other j [] live k (λ (z : k ≡ j). e (sym z)) in
-                    let again : pile (put j [] g) n ≡ pile (put k [] f) n = pile_ext (put j [] g) (put k [] f) n (λ i _. put_put j k live i) in
-                    let ends : q.0 ≡ mid =
-                    same_end ps (done ++ pile (put k [] f) n) start q.0 mid q.1
-                    (subst (λ (xs : List Step). Alone ps start (done ++ xs) mid) again a)
-                    in
-                    let len : r < length q.0 =
-                    omega (
-                      arith,
-                      run_length ps (f k) q.0 p.0 q.2,
-                      run_length ps (live j) p.0 ws p.2,
-                    )
-                    in (
-                      p.0,
-                      p.1,
-                      run_at ps (f k) q.0 p.0 q.2 r len
-                          ∙ ap (λ (xs : List Step). effect ps xs r (get_or q.0 r 0)) here
-                          ∙ set_shuts_all ps (live j) (live k) r set (good.pairwise k j (λ (z : k ≡ j). e (sym z))) (get_or q.0 r 0)
-                          ∙ ap (λ (xs : List ℕ). get_or xs r 0) ends,
-                    ))
-                    (good.right j r (omega arith)))
-              ];
-        }
+        drop_one k done (taken_back (notes k) ws) (length_each 0 (λ r w. back (notes k r) w) ws) (without good k l)
+        (λ j r e within set mid a.
+        let f = put j [] live in
+        let p = apart_from done live n ws good.pairwise good.serial j (inside j r set) in
+        let q = apart_from done f n p.0 (pairwise_clear ps live good.pairwise j) p.1 k l in
+        let here : f k ≡ live k = put_other j [] live k (λ (z : k ≡ j). e (sym z)) in
+        let ends : q.0 ≡ mid = same_end ps (done ++ pile (put k [] f) n) start q.0 mid q.1 a in
+        let len : r < length q.0 = omega (arith, run_length ps (f k) q.0 p.0 q.2, run_length ps (live j) p.0 ws p.2) in (
+          p.0,
+          p.1,
+          run_at ps (f k) q.0 p.0 q.2 r len
+              ∙ ap (λ (xs : List Step). effect ps xs r (get_or q.0 r 0)) here
+              ∙ set_shuts_all ps (live j) (live k) r set (good.pairwise k j (λ (z : k ≡ j). e (sym z))) (get_or q.0 r 0)
+              ∙ ap (λ (xs : List ℕ). get_or xs r 0) ends,
+        ))
 
     -- A job that commits: its steps go to the end of those done.
     pub commit_one : (k : ℕ) → k < n → Good ps start (done ++ live k) (put k [] live) n ws (put k (λ _. nothing) notes)
     commit_one k l =
-        let g = put k [] live in
-        record {
-          pairwise = pairwise_clear ps live good.pairwise k;
-          beyond =
-              λ j h. put_other k [] live j (λ (z : j ≡ k). omega arith) ∙ good.beyond j h;
-          serial = to_front done live n ws good.pairwise k l good.serial;
-          right =
-              λ j r h.
-              elim (cases_eq j k) [
-                | inl e ↦
-                    subst (λ (x : ℕ → Note). RightNote ps start (done ++ live k) g n j r (x r)) (sym (put_at k (λ _. nothing) notes j e))
-                    (blank_note (done ++ live k) g n j r (put_at k [] live j e))
-                | inr e ↦
-                    subst (λ (x : ℕ → Note). RightNote ps start (done ++ live k) g n j r (x r)) (sym (put_other k (λ _. nothing) notes j e))
-                    (carry_over done (done ++ live k) live g n n j r (notes j r) (put_other k [] live j e)
-                    (λ mid set a.
-                    let f = put j [] live in
-                    let here : f k ≡ live k = put_other j [] live k (λ (z : k ≡ j). e (sym z)) in
-                    let again : pile (put j [] g) n ≡ pile (put k [] f) n = pile_ext (put j [] g) (put k [] f) n (λ i _. put_put j k live i) in (
-                      mid,
-                      from_front done f n mid (pairwise_clear ps live good.pairwise j) k l
-                          (subst (λ (xs : List Step). Alone ps start ((done ++ xs) ++ pile (put k [] f) n) mid) (sym here)
-                          (subst (λ (xs : List Step). Alone ps start ((done ++ live k) ++ xs) mid) again a)),
-                      refl,
-                    ))
-                    (good.right j r h))
-              ];
-        }
+        drop_one k (done ++ live k) ws refl (to_front done live n ws good.pairwise k l good.serial)
+        (λ j r e within set mid a.
+        let here : put j [] live k ≡ live k = put_other j [] live k (λ (z : k ≡ j). e (sym z)) in (
+          mid,
+          from_front done (put j [] live) n mid (pairwise_clear ps live good.pairwise j) k l (rw here a),
+          refl,
+        ))
 
     -- One number more, which has no steps.
     pub more : Good ps start done live (suc n) ws notes
     more =
-        let none : pile live (suc n) ≡ pile live n =
-        ap (λ (xs : List Step). pile live n ++ xs) (good.beyond n (omega arith)) ∙ append-nil (pile live n)
-        in
+        let none : live n ≡ [] = good.beyond n (omega arith) in
         record {
           pairwise = good.pairwise;
           beyond = λ k h. good.beyond k (omega arith);
-          serial = subst (λ (xs : List Step). Alone ps start (done ++ xs) ws) (sym none) good.serial;
+          serial = rw (none, append-nil) good.serial;
           right =
               λ k r h.
               carry_over done done live live n (suc n) k r (notes k r) refl
               (λ mid set a.
-              let f = put k [] live in
-              let gone : f n ≡ [] = put_other k [] live n (λ (z : n ≡ k). omega (arith, inside k r set)) ∙ good.beyond n (omega arith) in (
-                mid,
-                subst (λ (xs : List Step). Alone ps start (done ++ xs) mid)
-                    (ap (λ (xs : List Step). pile f n ++ xs) gone ∙ append-nil (pile f n)) a,
-                refl,
-              ))
+              let gone : put k [] live n ≡ [] = put_cases (λ xs. xs ≡ []) k [] live n (λ _. refl) (λ _. none) in
+              (mid, rw (gone, append-nil) at a, refl))
               (good.right k r h);
         }
 
@@ -376,24 +262,16 @@ module _ (ps start : List ℕ) (fits : Fit start) where
     carry_one j o l apart =
         record {
           pairwise = wide;
-          beyond =
-              λ k h. put_other j longer live k (λ (z : k ≡ j). omega arith) ∙ good.beyond k h;
+          beyond = λ k h. put_other j longer live k (λ (z : k ≡ j). omega arith) ∙ good.beyond k h;
           serial =
-              together done live' n others.0 (after ps o ws) wide j l
-              (subst (λ (xs : List Step). Alone ps start (done ++ xs) others.0) (sym (cleared)) others.1)
-              (subst (λ (xs : List Step). Alone ps others.0 xs (after ps o ws)) (sym (put_same j longer live))
-              (alone_push ps others.0 (live j) step ws (after ps o ws) others.2 refl refl));
+              together done live' n others.0 (after ps o ws) wide j l (rw cleared others.1)
+              (rw (put_same j longer live) (alone_push ps others.0 (live j) step ws (after ps o ws) others.2 refl refl));
           right =
               λ k r h.
               let in_words : r < length ws = omega (arith, length_after ps o ws) in
-              elim (cases_eq k j) [
-                | inl e ↦
-                    subst (λ (x : ℕ). RightNote ps start done live' n x r (put j notes_j notes x r)) (sym e)
-                    (subst (λ (x : ℕ → Note). RightNote ps start done live' n j r (x r)) (sym (put_same j notes_j notes)) (own r in_words))
-                | inr e ↦
-                    subst (λ (x : ℕ → Note). RightNote ps start done live' n k r (x r)) (sym (put_other j notes_j notes k e))
-                    (carry_over done done live live' n n k r (notes k r) (put_other j longer live k e) (other k r in_words e) (good.right k r in_words))
-              ];
+              put_cases (λ x. RightNote ps start done live' n k r (x r)) j notes_j notes k (λ e. rw e (own r in_words))
+              (λ e.
+              carry_over done done live live' n n k r (notes k r) (put_other j longer live k e) (other k r in_words e) (good.right k r in_words));
         }
       where
         step : Step
@@ -411,34 +289,19 @@ module _ (ps start : List ℕ) (fits : Fit start) where
         others : (mid : List ℕ) × Alone ps start (done ++ pile (put j [] live) n) mid × Alone ps mid (live j) ws
         others = apart_from done live n ws good.pairwise good.serial j l
 
-        over : (f : ℕ → List Step) (i : ℕ) → put j [] (put j longer f) i ≡ put j [] f i
-        over f i =
-            elim (cases_eq i j) [
-              | inl a ↦ put_at j [] (put j longer f) i a ∙ sym (put_at j [] f i a)
-              | inr a ↦ put_other j [] (put j longer f) i a ∙ put_other j longer f i a ∙ sym (put_other j [] f i a)
-            ]
-
         cleared : pile (put j [] live') n ≡ pile (put j [] live) n
-        cleared = pile_ext (put j [] live') (put j [] live) n (λ i _. over live i)
+        cleared = pile_ext (put j [] live') (put j [] live) n (λ i _. grind (arith, nat_tests))
 
         wide : Pairwise ps live'
         wide i k d =
-            elim (cases_eq i j) [
-              | inl a ↦
-                  let c : k ≡ j → ⊥ = λ z. d (a ∙ sym z) in
-                  subst (λ (xs : List Step). ListsApart ps xs (live' k)) (sym (put_at j longer live i a))
-                  (subst (λ (xs : List Step). ListsApart ps longer xs) (sym (put_other j longer live k c))
-                  (apart_sym ps (live k) longer (apart_push ps (live k) (live j) step (good.pairwise k j c) (apart k c))))
-              | inr a ↦
-                  subst (λ (xs : List Step). ListsApart ps xs (live' k)) (sym (put_other j longer live i a))
-                  (elim (cases_eq k j) [
-                    | inl b ↦
-                        subst (λ (xs : List Step). ListsApart ps (live i) xs) (sym (put_at j longer live k b))
-                        (apart_push ps (live i) (live j) step (good.pairwise i j a) (apart i a))
-                    | inr b ↦
-                        subst (λ (xs : List Step). ListsApart ps (live i) xs) (sym (put_other j longer live k b)) (good.pairwise i k d)
-                  ])
-            ]
+            put_cases (λ xs. ListsApart ps xs (live' k)) j longer live i
+            (λ a.
+            let c : k ≡ j → ⊥ = λ z. d (a ∙ sym z) in
+            rw (put_other j longer live k c)
+            (apart_sym ps (live k) longer (apart_push ps (live k) (live j) step (good.pairwise k j c) (apart k c))))
+            (λ a.
+            put_cases (ListsApart ps (live i)) j longer live k
+            (λ _. apart_push ps (live i) (live j) step (good.pairwise i j a) (apart i a)) (λ _. good.pairwise i k d))
 
         -- what the others of another job leave where that job has set
         other :
@@ -451,16 +314,13 @@ module _ (ps start : List ℕ) (fits : Fit start) where
             let c : j ≡ k → ⊥ = λ z. e (sym z) in
             let q = apart_from done f' n mid (pairwise_clear ps live' wide k) a j l in
             let here : f' j ≡ longer = put_other k [] live' j c ∙ put_same j longer live in
-            let here_old : f j ≡ live j = put_other k [] live j c in
-            let parts = split ps (live j) (step ∷ []) q.0 mid (subst (λ (xs : List Step). Alone ps q.0 xs mid) here q.2) in
+            let parts = split ps (live j) (step ∷ []) q.0 mid (rw here at q.2) in
             let old = parts.0 in
             let same : pile (put j [] f') n ≡ pile (put j [] f) n =
-            pile_ext (put j [] f') (put j [] f) n (λ i _. put_put j k live' i ∙ ap_put k i ∙ sym (put_put j k live i))
+            pile_ext (put j [] f') (put j [] f) n (λ i _. grind (arith, nat_tests))
             in
             let run : Alone ps start (done ++ pile f n) old =
-            together done f n q.0 old (pairwise_clear ps live good.pairwise k) j l
-            (subst (λ (xs : List Step). Alone ps start (done ++ xs) q.0) same q.1)
-            (subst (λ (xs : List Step). Alone ps q.0 xs old) (sym here_old) parts.1)
+            together done f n q.0 old (pairwise_clear ps live good.pairwise k) j l (rw same at q.1) (rw (put_other k [] live j c) parts.1)
             in
             let long : r < length old =
             omega (arith, run_length ps (done ++ pile f n) start old run, run_length ps (done ++ pile live n) start ws good.serial)
@@ -474,13 +334,6 @@ module _ (ps start : List ℕ) (fits : Fit start) where
                   ∙ left_out ps o r (get_or old r 0) (set_shuts ps (live k) r o set (apart k e))
                   ),
             )
-          where
-            ap_put : (k i : ℕ) → put k [] (put j [] live') i ≡ put k [] (put j [] live) i
-            ap_put k i =
-                elim (cases_eq i k) [
-                  | inl a ↦ put_at k [] (put j [] live') i a ∙ sym (put_at k [] (put j [] live) i a)
-                  | inr a ↦ put_other k [] (put j [] live') i a ∙ over live i ∙ sym (put_other k [] (put j [] live) i a)
-                ]
 
         -- what the job's own steps now do to a place
         longer_at : (r w : ℕ) → effect ps (live' j) r w ≡ left_at ps o r (effect ps (live j) r w)
@@ -488,10 +341,10 @@ module _ (ps start : List ℕ) (fits : Fit start) where
             ap (λ (xs : List Step). effect ps xs r w) (put_same j longer live) ∙ effect_++ ps (live j) (step ∷ []) r w
 
         set_before : (r : ℕ) → sets_at ps r (live j) ≡ true → sets_at ps r (live' j) ≡ true
-        set_before r e = ap (sets_at ps r) (put_same j longer live) ∙ sets_left ps r (live j) (step ∷ []) e
+        set_before r e = grind (arith, nat_tests, put_same j longer live, sets_++ ps r (live j) (step ∷ []))
 
         alone_old : (mid : List ℕ) → Alone ps start (done ++ pile (put j [] live') n) mid → Alone ps start (done ++ pile (put j [] live) n) mid
-        alone_old mid a = subst (λ (xs : List Step). Alone ps start (done ++ xs) mid) cleared a
+        alone_old mid a = rw cleared at a
 
         -- an operation that leaves the record leaves the note right
         own_still :
@@ -504,31 +357,14 @@ module _ (ps start : List ℕ) (fits : Fit start) where
         own_add :
             (r m : ℕ) (note : Note) → ((w : ℕ) → left_at ps o r w ≡ (w + m) % 4294967296) → RightNote ps start done live n j r note
             → RightNote ps start done live' n j r (noted_add note m)
-        own_add r m nothing e h = (
-          omega arith,
-          λ w f.
-              let a = longer_at r w in
-              let b = e (effect ps (live j) r w) in
-              let c = h w in
-              omega arith,
-        )
-        own_add r m (added k) e h = (
-          omega arith,
-          λ w f.
-              let a = longer_at r w in
-              let b = e (effect ps (live j) r w) in
-              let c = h.1 w f in
-              omega arith,
-        )
+        own_add r m nothing e h = (omega arith, λ w f. omega (arith, longer_at r w, e (effect ps (live j) r w), h w))
+        own_add r m (added k) e h = (omega arith, λ w f. omega (arith, longer_at r w, e (effect ps (live j) r w), h.1 w f))
         own_add r m (put_back v) e h = (set_before r h.0, λ mid a. h.1 mid (alone_old mid a))
 
         own_set : (r : ℕ) → r < length ws → (v : ℕ) → o.action ≡ Set v → record_beneath ps o.granule r ≡ true
             → RightNote ps start done live' n j r (put_back (back (notes j r) (get_or ws r 0)))
         own_set r h v e t = (
-          ap (sets_at ps r) (put_same j longer live)
-              ∙ sets_right ps r (live j) (step ∷ [])
-              (or_left (is_set o.action && record_beneath ps o.granule r) false
-              (and_from (is_set o.action) (record_beneath ps o.granule r) (ap is_set e) t)),
+          grind (arith, nat_tests, put_same j longer live, sets_++ ps r (live j) (step ∷ [])),
           λ mid a.
               let ends : others.0 ≡ mid =
               same_end ps (done ++ pile (put j [] live) n) start others.0 mid others.1 (alone_old mid a)
@@ -540,35 +376,15 @@ module _ (ps start : List ℕ) (fits : Fit start) where
         )
 
         own_touched : (r : ℕ) → r < length ws → record_beneath ps o.granule r ≡ true → (a : Action) → o.action ≡ a
-            → RightNote ps start done live' n j r (noted a (get_or ws r 0) (notes j r))
-        own_touched r h t Read e =
-            own_still r (notes j r) (λ w. left_in ps o r w t ∙ ap (λ (a : Action). changed a w) e) (good.right j r h)
-        own_touched r h t Mean e =
-            own_still r (notes j r) (λ w. left_in ps o r w t ∙ ap (λ (a : Action). changed a w) e) (good.right j r h)
-        own_touched r h t (Set v) e = own_set r h v e t
-        own_touched r h t (Add m) e =
-            own_add r m (notes j r) (λ w. left_in ps o r w t ∙ ap (λ (a : Action). changed a w) e) (good.right j r h)
+            → ((w : ℕ) → left_at ps o r w ≡ changed a w) → RightNote ps start done live' n j r (noted a (get_or ws r 0) (notes j r))
+        own_touched r h t Read e s = own_still r (notes j r) s (good.right j r h)
+        own_touched r h t Mean e s = own_still r (notes j r) s (good.right j r h)
+        own_touched r h t (Set v) e s = own_set r h v e t
+        own_touched r h t (Add m) e s = own_add r m (notes j r) s (good.right j r h)
 
         own : (r : ℕ) → r < length ws → RightNote ps start done live' n j r (notes_j r)
         own r h =
             elim (cases_Bool (record_beneath ps o.granule r)) [
-              | inl t ↦
-                  subst (λ (x : Note). RightNote ps start done live' n j r x) (sym (picked r (record_beneath ps o.granule r) t))
-                  (own_touched r h t o.action refl)
-              | inr t ↦
-                  subst (λ (x : Note). RightNote ps start done live' n j r x) (sym (left_as r (record_beneath ps o.granule r) t))
-                  (own_still r (notes j r) (λ w. left_out ps o r w t) (good.right j r h))
+              | inl t ↦ rw (t, notes_j) (own_touched r h t o.action refl (λ w. left_in ps o r w t))
+              | inr t ↦ rw (t, notes_j) (own_still r (notes j r) (λ w. left_out ps o r w t) (good.right j r h))
             ]
-          where
-            picked :
-                (r : ℕ) (b : Bool) → b ≡ true
-                → (elim b as (λ _. Note) [ true ↦ noted o.action (get_or ws r 0) (notes j r) | false ↦ notes j r ])
-                ≡ noted o.action (get_or ws r 0) (notes j r)
-            picked r true e = refl
-            picked r false e = absurd (both_ways false refl e)
-
-            left_as :
-                (r : ℕ) (b : Bool) → b ≡ false
-                → (elim b as (λ _. Note) [ true ↦ noted o.action (get_or ws r 0) (notes j r) | false ↦ notes j r ]) ≡ notes j r
-            left_as r true e = absurd (both_ways true e refl)
-            left_as r false e = refl

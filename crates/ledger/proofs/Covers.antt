@@ -1,7 +1,8 @@
 -- Jobs whose modes stand together, and that cover what they did, do not collide.
-use Rattle.std.proofs.Common.{◌≡◌, ℕ, Bool, true, false, ◌&&◌, eqb, List, [], ◌∷◌, ◌++◌, sym, refl, ap, ◌∙◌, subst, inl, inr, append_assoc, append-nil}
+use Rattle.std.proofs.Common.{◌≡◌, ℕ, true, eqb, List, [], ◌∷◌, ◌++◌, sym, ap, ◌∙◌, subst, inl, inr, append_assoc, append-nil, arith}
 use Rattle.std.specs.List.{AllByRecursion}
-use Rattle.std.proofs.lemmas.Bool.{and_parts, and_from, or_cases, or_left, or_right, both_ways, eqb-true}
+use Rattle.std.proofs.lemmas.Bool.Decides.{nat_tests}
+use Rattle.std.proofs.lemmas.Bool.{and_parts, or_cases, eqb-true}
 use Rattle.modes.specs.declared.kind.Kind.{Kind}
 use Rattle.modes.specs.Kinds.{commutes}
 use Rattle.modes.specs.Systems.{System, Lawful}
@@ -12,6 +13,7 @@ use Rattle.operations.specs.declared.operation.Operation.{Operation}
 use Rattle.operations.specs.Alone.{Step}
 use Rattle.ledger.specs.Walks.{has}
 use Rattle.ledger.proofs.Swaps.{commutes_comm}
+use Rattle.ledger.proofs.Runs.{all_weaker}
 use Rattle.ledger.specs.Collisions.{Apart, ListsApart, covered, Covers}
 
 -- If g is on the path of r, the path of g is a front of it.
@@ -31,87 +33,46 @@ front ps f g =
 
 -- What is covered along a front is covered further down.
 pub covered_front : (s : System) (m : ℕ → ℕ) (k : Kind) (xs ys : List ℕ) → covered s m k xs ≡ true → covered s m k (xs ++ ys) ≡ true
-covered_front s m k [] ys e = absurd (both_ways false refl e)
-covered_front s m k (x ∷ xs) ys e =
-    let f = has s (m x) (s.full k) in
-    let i = has s (m x) (s.intent k) in
-    elim (or_cases f (i && covered s m k xs) e) [
-      | inl a ↦ or_left f (i && covered s m k (xs ++ ys)) a
-      | inr b ↦
-          let p = and_parts i (covered s m k xs) b in
-          or_right f (i && covered s m k (xs ++ ys)) (and_from i (covered s m k (xs ++ ys)) p.0 (covered_front s m k xs ys p.1))
-    ]
+covered_front s m k [] ys e = cc
+covered_front s m k (x ∷ xs) ys e = grind (arith, nat_tests, covered_front s m k xs ys)
 
 -- Whoever has more covers no less.
 pub covered_more :
     (s : System) (m m' : ℕ → ℕ) (k : Kind) (xs : List ℕ) → ((x part : ℕ) → has s (m x) part ≡ true → has s (m' x) part ≡ true)
     → covered s m k xs ≡ true → covered s m' k xs ≡ true
 covered_more s m m' k [] h e = e
-covered_more s m m' k (x ∷ xs) h e =
-    let f = has s (m x) (s.full k) in
-    let f' = has s (m' x) (s.full k) in
-    let i = has s (m x) (s.intent k) in
-    let i' = has s (m' x) (s.intent k) in
-    elim (or_cases f (i && covered s m k xs) e) [
-      | inl a ↦ or_left f' (i' && covered s m' k xs) (h x (s.full k) a)
-      | inr b ↦
-          let p = and_parts i (covered s m k xs) b in
-          or_right f' (i' && covered s m' k xs)
-          (and_from i' (covered s m' k xs) (h x (s.intent k) p.0) (covered_more s m m' k xs h p.1))
-    ]
+covered_more s m m' k (x ∷ xs) h e = grind (arith, nat_tests, h x (s.full k), h x (s.intent k), covered_more s m m' k xs h)
 
 module _ (s : System) (law : Lawful s) where
   -- who stands with a mode stands with what it has in it
   stands_part : (x m part : ℕ) → has s m part ≡ true → s.stands x m ≡ true → s.stands x part ≡ true
-  stands_part x m part h t =
-      let e = eqb-true (s.join m part) m h in
-      (and_parts (s.stands x m) (s.stands x part)
-      (sym (law.stands_join x m part) ∙ ap (s.stands x) e ∙ t)
-      ).1
+  stands_part x m part h t = grind (arith, nat_tests, law.stands_join x m part)
 
   stands_parts : (m part m' part' : ℕ) → has s m part ≡ true → has s m' part' ≡ true → s.stands m m' ≡ true → s.stands part part' ≡ true
   stands_parts m part m' part' h h' t =
       law.stands_comm part part'
       ∙ stands_part part' m part h (law.stands_comm part' m ∙ stands_part m m' part' h' t)
 
-  by_false : (b : Bool) → (b ≡ false → ⊥) → b ≡ true
-  by_false true h = refl
-  by_false false h = absurd (h refl)
-
   -- along one path two covered kinds commute
   meet :
       (m m' : ℕ → ℕ) (k l : Kind) → ((x : ℕ) → s.stands (m x) (m' x) ≡ true) → (xs : List ℕ) → covered s m k xs ≡ true
       → covered s m' l xs ≡ true → commutes k l ≡ true
-  meet m m' k l st [] a b = absurd (both_ways false refl a)
+  meet m m' k l st [] a b = cc
   meet m m' k l st (x ∷ xs) a b =
-      let f = has s (m x) (s.full k) in
-      let i = has s (m x) (s.intent k) in
-      let f' = has s (m' x) (s.full l) in
-      let i' = has s (m' x) (s.intent l) in
-      elim (or_cases f (i && covered s m k xs) a) [
-        | inl full ↦
-            by_false (commutes k l)
-            (λ apart.
-            elim (or_cases f' (i' && covered s m' l xs) b) [
-              | inl full' ↦
-                  both_ways (s.stands (s.full k) (s.full l)) (law.full_full k l apart)
-                  (stands_parts (m x) (s.full k) (m' x) (s.full l) full full' (st x))
-              | inr rest' ↦
-                  both_ways (s.stands (s.full k) (s.intent l)) (law.full_intent k l apart)
-                  (stands_parts (m x) (s.full k) (m' x) (s.intent l) full (and_parts i' (covered s m' l xs) rest').0 (st x))
-            ])
-        | inr rest ↦
-            let p = and_parts i (covered s m k xs) rest in
-            elim (or_cases f' (i' && covered s m' l xs) b) [
-              | inl full' ↦
-                  by_false (commutes k l)
-                  (λ apart.
-                  both_ways (s.stands (s.full l) (s.intent k)) (law.full_intent l k (commutes_comm l k ∙ apart))
-                  (law.stands_comm (s.full l) (s.intent k)
-                  ∙ stands_parts (m x) (s.intent k) (m' x) (s.full l) p.0 full' (st x)))
-              | inr rest' ↦ meet m m' k l st xs p.1 (and_parts i' (covered s m' l xs) rest').1
-            ]
-      ]
+      grind (
+        arith,
+        nat_tests,
+        law.full_full k l,
+        law.full_intent k l,
+        law.full_intent l k,
+        law.stands_comm (s.full l) (s.intent k),
+        commutes_comm l k,
+        stands_parts (m x) (s.full k) (m' x) (s.full l),
+        stands_parts (m x) (s.full k) (m' x) (s.intent l),
+        stands_parts (m x) (s.intent k) (m' x) (s.full l),
+        st x,
+        meet m m' k l st xs,
+      )
 
   module _ (ps : List ℕ) (f : Falls ps) (m m' : ℕ → ℕ) (st : (x : ℕ) → s.stands (m x) (m' x) ≡ true) where
     pub apart_one_one :
@@ -128,16 +89,8 @@ module _ (s : System) (law : Lawful s) where
 
     pub apart_each : (ss : List Step) (o : Operation) → Covers s ps m ss → covered s m' (kind o.action) (path ps o.granule) ≡ true
         → AllByRecursion (λ t. Apart ps t.0 o) ss
-    apart_each [] o c b = tt
-    apart_each (t ∷ ts) o c b = (apart_one_one t.0 o c.0 b, apart_each ts o c.1 b)
+    apart_each ss o c b = all_weaker (λ t a. apart_one_one t.0 o a b) ss c
 
     -- The lists of two such jobs are apart.
     pub apart_lists : (ss ts : List Step) → Covers s ps m ss → Covers s ps m' ts → ListsApart ps ss ts
-    apart_lists [] ts c d = tt
-    apart_lists (t ∷ ss) ts c d = (one t ts c.0 d, apart_lists ss ts c.1 d)
-      where
-        one :
-            (t : Step) (ts : List Step) → covered s m (kind t.0.action) (path ps t.0.granule) ≡ true → Covers s ps m' ts
-            → AllByRecursion (λ u. Apart ps t.0 u.0) ts
-        one t [] c d = tt
-        one t (u ∷ us) c d = (apart_one_one t.0 u.0 c d.0, one t us c d.1)
+    apart_lists ss ts c d = all_weaker (λ t a. all_weaker (λ u b. apart_one_one t.0 u.0 a b) ts d) ss c

@@ -1,21 +1,23 @@
 -- What stays true of a ledger, and of the words and notes that go with it.
-use Rattle.std.proofs.Common.{◌≡◌, ℕ, suc, ◌<◌, ◌≤◌, Bool, true, false, List, [], ◌∷◌, sym, refl, ap, ◌∙◌, subst, ap₂, inl, inr, arith}
-use Rattle.std.proofs.lemmas.Bool.{cases_eq, cases_lt, cases_Bool, both_ways, eq-eqb, ne_eqb, lt-ltb, le-ltb}
+use Rattle.std.proofs.Common.{◌≡◌, ℕ, suc, ◌<◌, ◌≤◌, Bool, true, false, List, [], sym, refl, ap, ◌∙◌, inl, inr, arith}
+use Rattle.std.proofs.lemmas.Bool.Decides.{nat_tests}
+use Rattle.std.proofs.lemmas.Bool.{cases_lt, cases_Bool, both_ways}
 use Rattle.modes.specs.Systems.{System, Lawful}
 use Rattle.shelf.specs.Words.{Fit}
 use Rattle.granules.specs.Below.{some_below}
 use Rattle.granules.proofs.Below.{some_from}
 use Rattle.operations.specs.Alone.{Step}
-use Rattle.ledger.specs.Jobs.{Jobs, Status, working, waiting, wounded, ended, is_open, is_wounded, is_ended, put, where_so, raise}
-use Rattle.ledger.specs.Walks.{passes, gives_way, holds_up, judge, must_give_way, must_wait, yields, blocks, has}
+use Rattle.ledger.specs.Jobs.{Jobs, Status, ended, is_open, is_wounded, is_ended, put, where_so, raise}
+use Rattle.ledger.specs.Walks.{passes, gives_way, holds_up, judge, yields, blocks, has}
 use Rattle.ledger.specs.Ledgers.{Layout, Ledger, ledger_hands}
 use Rattle.ledger.specs.Promises.{count_of, in_turn}
 use Rattle.ledger.specs.Collisions.{Covers}
 use Rattle.ledger.specs.Models.{Note, nothing, all_taken_back}
-use Rattle.ledger.proofs.Piles.{put_same, put_at, put_other}
+use Rattle.ledger.proofs.Piles.{put_same, put_other, put_cases}
+use Rattle.ledger.proofs.Runs.{all_weaker}
 use Rattle.ledger.proofs.Orders.{in_turn_ext}
 use Rattle.ledger.proofs.Books.{Good, good_ext}
-use Rattle.ledger.proofs.Wounds.{where_true, where_false, wound_all}
+use Rattle.ledger.proofs.Wounds.{where_cases, wound_all}
 use Rattle.ledger.proofs.Covers.{covered_more}
 
 -- the steps of a job that are in the words and can still be taken back
@@ -44,129 +46,54 @@ pub record Kept (y : Layout) (start : List ℕ) (l : Ledger) (ws : List ℕ) (no
   pub ordered : (k : ℕ) → is_ended (l.jobs.status k) ≡ false → count_of k l.order ≡ 0
 
 pub open_not_ended : (st : Status) → is_open st ≡ true → is_ended st ≡ false
-open_not_ended working e = refl
-open_not_ended (waiting o) e = refl
-open_not_ended wounded e = refl
-open_not_ended ended e = sym e
-
-pub open_not_wounded : (st : Status) → is_open st ≡ true → is_wounded st ≡ false
-open_not_wounded working e = refl
-open_not_wounded (waiting o) e = refl
-open_not_wounded wounded e = sym e
-open_not_wounded ended e = refl
+open_not_ended st e = grind (arith, nat_tests)
 
 -- a job that has not ended has a number that was given
-pub given : (y : Layout) (start : List ℕ) (l : Ledger) (ws : List ℕ) (notes : ℕ → ℕ → Note) → Kept y start l ws notes
+pub given : {y : Layout} {start : List ℕ} {l : Ledger} {ws : List ℕ} {notes : ℕ → ℕ → Note} → Kept y start l ws notes
     → (k : ℕ) → is_ended (l.jobs.status k) ≡ false → k < suc l.jobs.opened
-given y start l ws notes kept k e =
-    elim (cases_lt k (suc l.jobs.opened))
-    [ inl h ↦ h | inr h ↦ absurd (both_ways (is_ended (l.jobs.status k)) e (ap is_ended (kept.unopened k h))) ]
+given {l = l} kept k e =
+    elim (cases_lt k (suc l.jobs.opened)) [ inl h ↦ h | inr h ↦ absurd (grind (arith, nat_tests, kept.unopened k h)) ]
 
--- the judgement of one holder, case by case
+-- the judgement of one holder, case by case: what the definition says, for its reader
 pub judged_self : (s : System) (a t i h : ℕ) → i ≡ a → judge s a t i h ≡ passes
-judged_self s a t i h e = let x = eq-eqb i a e in rw (x, judge)
+judged_self s a t i h e = grind (arith, nat_tests)
 
 judged_stands : (s : System) (a t i h : ℕ) → (i ≡ a → ⊥) → s.stands h t ≡ true → judge s a t i h ≡ passes
-judged_stands s a t i h e st = let x = ne_eqb i a e in rw (x, st, judge)
+judged_stands s a t i h e st = grind (arith, nat_tests)
 
 judged_young : (s : System) (a t i h : ℕ) → (i ≡ a → ⊥) → s.stands h t ≡ false → a < i → judge s a t i h ≡ gives_way
-judged_young s a t i h e st l = let x = ne_eqb i a e in let y = lt-ltb a i l in rw (x, st, y, judge)
+judged_young s a t i h e st l = grind (arith, nat_tests)
 
 judged_old : (s : System) (a t i h : ℕ) → (i ≡ a → ⊥) → s.stands h t ≡ false → i ≤ a → judge s a t i h ≡ holds_up
-judged_old s a t i h e st l = let x = ne_eqb i a e in let y = le-ltb a i l in rw (x, st, y, judge)
+judged_old s a t i h e st l = grind (arith, nat_tests)
 
 module _ (s : System) (law : Lawful s) (js : Jobs) (a x t : ℕ) where
   -- who gives way is younger and does not stand; who holds up is older and does not stand
   pub yields_young : (k : ℕ) → yields s js a x t k ≡ true → (a < k) × (s.stands (js.mode k x) t ≡ false)
-  yields_young k e =
-      elim (cases_eq k a) [
-        | inl z ↦ absurd (both_ways false refl (sym (ap must_give_way (judged_self s a t k (js.mode k x) z)) ∙ e))
-        | inr z ↦
-            elim (cases_Bool (s.stands (js.mode k x) t)) [
-              | inl st ↦ absurd (both_ways false refl (sym (ap must_give_way (judged_stands s a t k (js.mode k x) z st)) ∙ e))
-              | inr st ↦
-                  elim (cases_lt a k) [
-                    | inl l ↦ (l, st)
-                    | inr l ↦ absurd (both_ways false refl (sym (ap must_give_way (judged_old s a t k (js.mode k x) z st l)) ∙ e))
-                  ]
-            ]
-      ]
+  yields_young k e = grind (arith, nat_tests)
 
   pub blocks_old : (k : ℕ) → blocks s js a x t k ≡ true → (k < a) × (s.stands (js.mode k x) t ≡ false)
-  blocks_old k e =
-      elim (cases_eq k a) [
-        | inl z ↦ absurd (both_ways false refl (sym (ap must_wait (judged_self s a t k (js.mode k x) z)) ∙ e))
-        | inr z ↦
-            elim (cases_Bool (s.stands (js.mode k x) t)) [
-              | inl st ↦ absurd (both_ways false refl (sym (ap must_wait (judged_stands s a t k (js.mode k x) z st)) ∙ e))
-              | inr st ↦
-                  elim (cases_lt a k) [
-                    | inl l ↦ absurd (both_ways false refl (sym (ap must_wait (judged_young s a t k (js.mode k x) z st l)) ∙ e))
-                    | inr l ↦ (omega arith, st)
-                  ]
-            ]
-      ]
+  blocks_old k e = (grind (arith, nat_tests), grind (arith, nat_tests))
 
   -- if nobody holds up, whoever does not give way stands with the target
   pub stands_or_yields :
       some_below a (blocks s js a x t) ≡ false → (k : ℕ) → (k ≡ a → ⊥) → yields s js a x t k ≡ false → s.stands (js.mode k x) t ≡ true
-  stands_or_yields none k z e =
-      elim (cases_Bool (s.stands (js.mode k x) t)) [
-        | inl st ↦ st
-        | inr st ↦
-            elim (cases_lt a k) [
-              | inl l ↦ absurd (both_ways (yields s js a x t k) e (ap must_give_way (judged_young s a t k (js.mode k x) z st l)))
-              | inr l ↦
-                  absurd
-                  (both_ways (some_below a (blocks s js a x t)) none
-                  (some_from a (blocks s js a x t) k (omega arith) (ap must_wait (judged_old s a t k (js.mode k x) z st l))))
-            ]
-      ]
+  stands_or_yields none k z e = grind (arith, nat_tests, some_from a (blocks s js a x t) k)
 
   -- who is in the way holds something
   pub in_the_way : (k : ℕ) → s.stands (js.mode k x) t ≡ false → js.mode k x ≡ 0 → ⊥
   in_the_way k e z = both_ways (s.stands (js.mode k x) t) e (ap (λ (m : ℕ). s.stands m t) z ∙ law.stands_none t)
 
-module _ (y : Layout) (law : Lawful y.system) (start : List ℕ) (fits : Fit start) (l : Ledger) (ws : List ℕ) (notes : ℕ → ℕ → Note)
+module _ {y : Layout} (law : Lawful y.system) {start : List ℕ} (fits : Fit start) {l : Ledger} {ws : List ℕ} {notes : ℕ → ℕ → Note}
     (kept : Kept y start l ws notes) where
   -- Open jobs wounded.
   module _ (p : ℕ → Bool) (open_ones : (k : ℕ) → p k ≡ true → is_open (l.jobs.status k) ≡ true) where
-    wounded_ledger : Ledger
-    wounded_ledger = ledger_hands.wound p l
-
-    hurt_mode : (k x : ℕ) → p k ≡ true → where_so p (λ _. 0) l.jobs.mode k x ≡ 0
-    hurt_mode k x e = ap (λ (f : ℕ → ℕ). f x) (where_true p (λ _. 0) l.jobs.mode k e)
-
-    spared_mode : (k x : ℕ) → p k ≡ false → where_so p (λ _. 0) l.jobs.mode k x ≡ l.jobs.mode k x
-    spared_mode k x e = ap (λ (f : ℕ → ℕ). f x) (where_false p (λ _. 0) l.jobs.mode k e)
-
-    hurt_status : (k : ℕ) → p k ≡ true → where_so p wounded l.jobs.status k ≡ wounded
-    hurt_status k e = where_true p wounded l.jobs.status k e
-
-    spared_status : (k : ℕ) → p k ≡ false → where_so p wounded l.jobs.status k ≡ l.jobs.status k
-    spared_status k e = where_false p wounded l.jobs.status k e
-
     spared_live : (k : ℕ) → where_so p [] (live l) k ≡ live (ledger_hands.wound p l) k
-    spared_live k =
-        elim (cases_Bool (p k)) [
-          | inl e ↦
-              where_true p [] (live l) k e
-              ∙ sym (live_shut (ledger_hands.wound p l) k (ap is_open (hurt_status k e)))
-          | inr e ↦
-              where_false p [] (live l) k e
-              ∙ elim (cases_Bool (is_open (l.jobs.status k))) [
-                | inl o ↦
-                    live_open l k o
-                    ∙ sym (live_open (ledger_hands.wound p l) k (ap is_open (spared_status k e) ∙ o) ∙ where_false p [] l.steps k e)
-                | inr o ↦ live_shut l k o ∙ sym (live_shut (ledger_hands.wound p l) k (ap is_open (spared_status k e) ∙ o))
-              ]
-        ]
+    spared_live k = grind (arith, nat_tests)
 
     -- an ended job is not among them
     ended_spared : (k : ℕ) → is_ended (l.jobs.status k) ≡ true → p k ≡ false
-    ended_spared k e =
-        elim (cases_Bool (p k))
-        [ inl t ↦ absurd (both_ways (is_ended (l.jobs.status k)) (open_not_ended (l.jobs.status k) (open_ones k t)) e) | inr t ↦ t ]
+    ended_spared k e = grind (arith, nat_tests, open_ones k, open_not_ended (l.jobs.status k))
 
     pub wound_kept :
         Kept y start (ledger_hands.wound p l) (all_taken_back p notes (suc l.jobs.opened) ws) (where_so p (λ _. nothing) notes)
@@ -174,148 +101,62 @@ module _ (y : Layout) (law : Lawful y.system) (start : List ℕ) (fits : Fit sta
         record {
           standing =
               λ i j x d.
-              elim (cases_Bool (p i)) [
-                | inl e ↦ ap (λ (m : ℕ). y.system.stands m (where_so p (λ _. 0) l.jobs.mode j x)) (hurt_mode i x e) ∙ law.stands_none _
-                | inr e ↦
-                    elim (cases_Bool (p j)) [
-                      | inl f ↦
-                          ap (λ (m : ℕ). y.system.stands (where_so p (λ _. 0) l.jobs.mode i x) m) (hurt_mode j x f)
-                          ∙ law.stands_comm (where_so p (λ _. 0) l.jobs.mode i x) 0
-                          ∙ law.stands_none (where_so p (λ _. 0) l.jobs.mode i x)
-                      | inr f ↦ ap₂ y.system.stands (spared_mode i x e) (spared_mode j x f) ∙ kept.standing i j x d
-                    ]
-              ];
-          idle =
-              λ k x o.
-              elim (cases_Bool (p k)) [
-                | inl e ↦ hurt_mode k x e
-                | inr e ↦ spared_mode k x e ∙ kept.idle k x (sym (ap is_open (spared_status k e)) ∙ o)
-              ];
+              where_cases (λ m. y.system.stands (m x) (where_so p (λ _. 0) l.jobs.mode j x) ≡ true) p (λ _. 0) l.jobs.mode i
+              (λ _. law.stands_none _)
+              (λ _.
+              where_cases (λ m. y.system.stands (l.jobs.mode i x) (m x) ≡ true) p (λ _. 0) l.jobs.mode j
+              (λ _. law.stands_comm _ 0 ∙ law.stands_none _) (λ _. kept.standing i j x d));
+          idle = λ k x o. where_cases (λ m. m x ≡ 0) p (λ _. 0) l.jobs.mode k (λ _. refl) (λ e. kept.idle k x (grind (arith, nat_tests)));
           covers =
               λ k.
-              elim (cases_Bool (p k)) [
-                | inl e ↦
-                    subst (λ (xs : List Step). Covers y.system y.parents (where_so p (λ _. 0) l.jobs.mode k) xs)
-                    (sym (live_shut (ledger_hands.wound p l) k (ap is_open (hurt_status k e)))) tt
-                | inr e ↦
-                    subst (λ (xs : List Step). Covers y.system y.parents (where_so p (λ _. 0) l.jobs.mode k) xs)
-                    (sym (where_false p [] (live l) k e) ∙ spared_live k)
-                    (subst (λ (m : ℕ → ℕ). Covers y.system y.parents m (live l k)) (sym (where_false p (λ _. 0) l.jobs.mode k e)) (kept.covers k))
-              ];
+              rw (← spared_live k)
+              (elim (cases_Bool (p k)) [ inl e ↦ rw (e, where_so) tt | inr e ↦ rw (e, where_so) (kept.covers k) ]);
           books =
-              subst
-              (λ (xs : List Step).
-              Good y.parents start xs (live (ledger_hands.wound p l)) (suc l.jobs.opened)
-              (all_taken_back p notes (suc l.jobs.opened) ws) (where_so p (λ _. nothing) notes))
-              (in_turn_ext l.steps (where_so p [] l.steps) l.order
-              (λ k.
-              elim (cases_Bool (is_ended (l.jobs.status k))) [
-                | inl e ↦ inr (sym (where_false p [] l.steps k (ended_spared k e)))
-                | inr e ↦ inl (kept.ordered k e)
-              ]))
-              (good_ext y.parents start fits (in_turn l.steps l.order) (where_so p [] (live l)) (live (ledger_hands.wound p l))
-              (suc l.jobs.opened) (all_taken_back p notes (suc l.jobs.opened) ws) (where_so p (λ _. nothing) notes)
-              (where_so p (λ _. nothing) notes) spared_live (λ k. refl)
-              (wound_all y.parents start fits (in_turn l.steps l.order) (live l) (suc l.jobs.opened) ws notes kept.books p
-              (λ k e. given y start l ws notes kept k (open_not_ended (l.jobs.status k) (open_ones k e)))));
-          unopened =
-              λ k h. spared_status k (ended_spared k (ap is_ended (kept.unopened k h))) ∙ kept.unopened k h;
-          unused =
-              λ k h. (
-                where_false p [] l.steps k (ended_spared k (ap is_ended (kept.unopened k h))) ∙ (kept.unused k h).0,
-                (kept.unused k h).1,
-              );
-          clean =
-              λ k w.
-              elim (cases_Bool (p k)) [
-                | inl e ↦ where_true p [] l.steps k e
-                | inr e ↦ where_false p [] l.steps k e ∙ kept.clean k (sym (ap is_wounded (spared_status k e)) ∙ w)
-              ];
-          ordered =
-              λ k o.
-              elim (cases_Bool (p k)) [
-                | inl e ↦ kept.ordered k (open_not_ended (l.jobs.status k) (open_ones k e))
-                | inr e ↦ kept.ordered k (sym (ap is_ended (spared_status k e)) ∙ o)
-              ];
+              rw (← in_turn_ext l.steps (where_so p [] l.steps) l.order
+              (λ k. grind (arith, nat_tests, ended_spared k, kept.ordered k)))
+              (good_ext _ _ fits spared_live (λ k. refl)
+              (wound_all fits kept.books p (λ k e. given kept k (open_not_ended (l.jobs.status k) (open_ones k e)))));
+          unopened = λ k h. grind (arith, nat_tests, kept.unopened k h, ended_spared k);
+          unused = λ k h. grind (arith, nat_tests, kept.unopened k h, kept.unused k h);
+          clean = λ k w. grind (arith, nat_tests, kept.clean k);
+          ordered = λ k o. grind (arith, nat_tests, kept.ordered k, open_ones k, open_not_ended (l.jobs.status k));
         }
 
   -- A job's mode raised to one that stands with those of the others and has all in it that it had.
   module _ (a x t : ℕ) (open_a : is_open (l.jobs.status a) ≡ true)
       (alone : (i : ℕ) → (i ≡ a → ⊥) → y.system.stands (l.jobs.mode i x) t ≡ true)
       (rises : (part : ℕ) → has y.system (l.jobs.mode a x) part ≡ true → has y.system t part ≡ true) where
-    raised : ℕ → ℕ → ℕ
-    raised = put a (put x t (l.jobs.mode a)) l.jobs.mode
-
-    raised_there : (z : ℕ) → z ≡ x → put a (put x t (l.jobs.mode a)) l.jobs.mode a z ≡ t
-    raised_there z e =
-        ap (λ (f : ℕ → ℕ). f z) (put_same a (put x t (l.jobs.mode a)) l.jobs.mode) ∙ put_at x t (l.jobs.mode a) z e
-
-    raised_beside : (z : ℕ) → (z ≡ x → ⊥) → put a (put x t (l.jobs.mode a)) l.jobs.mode a z ≡ l.jobs.mode a z
-    raised_beside z e =
-        ap (λ (f : ℕ → ℕ). f z) (put_same a (put x t (l.jobs.mode a)) l.jobs.mode) ∙ put_other x t (l.jobs.mode a) z e
-
-    raised_else : (k z : ℕ) → (k ≡ a → ⊥) → put a (put x t (l.jobs.mode a)) l.jobs.mode k z ≡ l.jobs.mode k z
-    raised_else k z e = ap (λ (f : ℕ → ℕ). f z) (put_other a (put x t (l.jobs.mode a)) l.jobs.mode k e)
-
     pub has_still :
         (z part : ℕ) → has y.system (l.jobs.mode a z) part ≡ true
         → has y.system (put a (put x t (l.jobs.mode a)) l.jobs.mode a z) part ≡ true
     has_still z part h =
-        elim (cases_eq z x) [
-          | inl e ↦
-              ap (λ (m : ℕ). has y.system m part) (raised_there z e)
-              ∙ rises part (subst (λ (w : ℕ). has y.system (l.jobs.mode a w) part ≡ true) e h)
-          | inr e ↦ ap (λ (m : ℕ). has y.system m part) (raised_beside z e) ∙ h
-        ]
+        rw put_same
+        (put_cases (λ m. has y.system m part ≡ true) x t (l.jobs.mode a) z (λ e. rises part (rw (← e) h)) (λ _. h))
 
     -- another job stands with the raised one
-    beside : (j z : ℕ) → (j ≡ a → ⊥) → y.system.stands (l.jobs.mode j z) (put a (put x t (l.jobs.mode a)) l.jobs.mode a z) ≡ true
+    beside : (j z : ℕ) → (j ≡ a → ⊥) → y.system.stands (l.jobs.mode j z) (put x t (l.jobs.mode a) z) ≡ true
     beside j z d =
-        elim (cases_eq z x) [
-          | inl e ↦
-              ap (y.system.stands (l.jobs.mode j z)) (raised_there z e)
-              ∙ ap (λ (w : ℕ). y.system.stands (l.jobs.mode j w) t) e
-              ∙ alone j d
-          | inr e ↦ ap (y.system.stands (l.jobs.mode j z)) (raised_beside z e) ∙ kept.standing j a z d
-        ]
+        put_cases (λ m. y.system.stands (l.jobs.mode j z) m ≡ true) x t (l.jobs.mode a) z (λ e. rw e (alone j d)) (λ _. kept.standing j a z d)
 
     pub raise_kept : Kept y start (ledger_hands.with_jobs (raise a x t l.jobs) l) ws notes
     raise_kept =
         record {
           standing =
               λ i j z d.
-              elim (cases_eq i a) [
-                | inl e ↦
-                    let other : j ≡ a → ⊥ = λ w. d (e ∙ sym w) in
-                    ap₂ y.system.stands
-                    (ap (λ (k : ℕ). put a (put x t (l.jobs.mode a)) l.jobs.mode k z) e) (raised_else j z other)
-                    ∙ law.stands_comm (put a (put x t (l.jobs.mode a)) l.jobs.mode a z) (l.jobs.mode j z)
-                    ∙ beside j z other
-                | inr e ↦
-                    elim (cases_eq j a) [
-                      | inl f ↦
-                          ap₂ y.system.stands (raised_else i z e)
-                          (ap (λ (k : ℕ). put a (put x t (l.jobs.mode a)) l.jobs.mode k z) f)
-                          ∙ beside i z e
-                      | inr f ↦ ap₂ y.system.stands (raised_else i z e) (raised_else j z f) ∙ kept.standing i j z d
-                    ]
-              ];
+              put_cases (λ m. y.system.stands (m z) (put a (put x t (l.jobs.mode a)) l.jobs.mode j z) ≡ true) a (put x t (l.jobs.mode a)) l.jobs.mode i
+              (λ e.
+              let other : j ≡ a → ⊥ = λ w. d (e ∙ sym w) in
+              rw (put_other a (put x t (l.jobs.mode a)) l.jobs.mode j other) (law.stands_comm _ _ ∙ beside j z other))
+              (λ e.
+              put_cases (λ m. y.system.stands (l.jobs.mode i z) (m z) ≡ true) a (put x t (l.jobs.mode a)) l.jobs.mode j
+              (λ _. beside i z e) (λ _. kept.standing i j z d));
           idle =
-              λ k z o.
-              elim (cases_eq k a) [
-                | inl e ↦ absurd (both_ways (is_open (l.jobs.status k)) o (ap (λ (w : ℕ). is_open (l.jobs.status w)) e ∙ open_a))
-                | inr e ↦ raised_else k z e ∙ kept.idle k z o
-              ];
+              λ k z o. put_cases (λ m. m z ≡ 0) a (put x t (l.jobs.mode a)) l.jobs.mode k (λ e. grind (arith, nat_tests)) (λ _. kept.idle k z o);
           covers =
               λ k.
-              elim (cases_eq k a) [
-                | inl e ↦
-                    subst (λ (w : ℕ). Covers y.system y.parents (put a (put x t (l.jobs.mode a)) l.jobs.mode w) (live l w)) (sym e)
-                    (more_covers (live l a) (kept.covers a))
-                | inr e ↦
-                    subst (λ (m : ℕ → ℕ). Covers y.system y.parents m (live l k))
-                    (sym (put_other a (put x t (l.jobs.mode a)) l.jobs.mode k e)) (kept.covers k)
-              ];
+              put_cases (λ m. Covers y.system y.parents m (live l k)) a (put x t (l.jobs.mode a)) l.jobs.mode k
+              (λ e. rw e (all_weaker (λ u c. covered_more y.system (l.jobs.mode a) (put x t (l.jobs.mode a)) _ _ more c) (live l a) (kept.covers a)))
+              (λ _. kept.covers k);
           books = kept.books;
           unopened = kept.unopened;
           unused = kept.unused;
@@ -323,11 +164,5 @@ module _ (y : Layout) (law : Lawful y.system) (start : List ℕ) (fits : Fit sta
           ordered = kept.ordered;
         }
       where
-        more_covers :
-            (ss : List Step) → Covers y.system y.parents (l.jobs.mode a) ss
-            → Covers y.system y.parents (put a (put x t (l.jobs.mode a)) l.jobs.mode a) ss
-        more_covers [] c = tt
-        more_covers (u ∷ us) c = (
-          covered_more y.system (l.jobs.mode a) (put a (put x t (l.jobs.mode a)) l.jobs.mode a) _ _ has_still c.0,
-          more_covers us c.1,
-        )
+        more : (z part : ℕ) → has y.system (l.jobs.mode a z) part ≡ true → has y.system (put x t (l.jobs.mode a) z) part ≡ true
+        more z part h = rw put_same at (has_still z part h)

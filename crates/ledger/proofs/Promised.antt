@@ -1,45 +1,29 @@
 -- The promise, after any list of calls.
-use Rattle.std.proofs.Common.{◌≡◌, ℕ, suc, ◌<◌, true, false, ◌⊎◌, List, [], ◌∷◌, ◌++◌, Some, None, sym, refl, ap, ◌∙◌, subst, inl, inr, append-nil, arith}
-use Rattle.std.proofs.lemmas.Bool.{cases_eq, cases_Bool, eq-eqb, ne_eqb}
+use Rattle.std.proofs.Common.{◌≡◌, ℕ, suc, ◌<◌, true, ◌⊎◌, List, [], ◌∷◌, ◌++◌, None, sym, refl, subst, arith}
+use Rattle.std.proofs.lemmas.Bool.Decides.{nat_tests}
 use Rattle.modes.specs.Systems.{Lawful}
 use Rattle.shelf.specs.Words.{Fit}
-use Rattle.granules.specs.declared.unfit.Unfit.{Unfit}
-use Rattle.granules.specs.Tables.{fault, sized, rooted}
+use Rattle.granules.specs.Tables.{fault, rooted}
 use Rattle.granules.proofs.Climbs.{Falls, falls}
 use Rattle.operations.specs.Alone.{Step, Alone}
 use Rattle.ledger.specs.declared.call.Call.{Call}
 use Rattle.ledger.specs.Jobs.{is_open, put}
 use Rattle.ledger.specs.Ledgers.{Layout, Ledger, Event, blank, next, written}
 use Rattle.ledger.specs.Promises.{Serial, EachEvent, count_of, in_turn}
-use Rattle.ledger.specs.Models.{Note, nothing, Model, refused_or, grant, fresh, serve, history, served, taken_back}
-use Rattle.ledger.specs.Theorems.{PromiseKept, OldestNeverWaits, EachGoesOn, CoveredDoNotCollide, ArrangesWithout, TakeBackExact, RefusedLeavesEqual}
+use Rattle.ledger.specs.Models.{Note, nothing, Model, fresh, serve, history, served, taken_back}
+use Rattle.ledger.specs.Theorems.{PromiseKept, OldestNeverWaits, EachGoesOn, CoveredDoNotCollide, ArrangesWithout, TakeBackExact}
 use Rattle.ledger.proofs.Runs.{alike_after}
-use Rattle.ledger.proofs.Piles.{put_at, put_other, pile, Pairwise, pairwise_clear}
+use Rattle.ledger.proofs.Piles.{pile, Pairwise, pairwise_clear}
 use Rattle.ledger.proofs.Orders.{arranged, in_turn_ext}
 use Rattle.ledger.proofs.Books.{without}
-use Rattle.ledger.proofs.Kept.{Kept, live, live_open, live_shut, open_not_ended, given}
+use Rattle.ledger.proofs.Kept.{Kept, live, open_not_ended, given}
 use Rattle.ledger.proofs.Walking.{model_of}
 use Rattle.ledger.proofs.Serves.{served_kept}
 use Rattle.ledger.proofs.Covers.{apart_lists}
 
 -- a table that is admitted is rooted
 admitted : (parents : List ℕ) (words : ℕ) → fault parents words ≡ None → rooted parents ≡ true
-admitted parents words e =
-    elim (cases_Bool (sized parents words)) [
-      | inl a ↦
-          elim (cases_Bool (rooted parents))
-          [ inl b ↦ b | inr b ↦ absurd (some_none _ (sym (wrong a b) ∙ e)) ]
-      | inr a ↦ absurd (some_none _ (sym (short a) ∙ e))
-    ]
-  where
-    some_none : (u : Unfit) → Some u ≡ None → ⊥
-    some_none u c = let z : ◌≡◌ {A = ℕ} 0 1 = cc in omega arith
-
-    short : sized parents words ≡ false → fault parents words ≡ Some Unfit.Lengths
-    short a = rw (a, fault)
-
-    wrong : sized parents words ≡ true → rooted parents ≡ false → fault parents words ≡ Some Unfit.Parent
-    wrong a b = rw (a, b, fault)
+admitted parents words e = grind (arith, nat_tests)
 
 -- with no job nothing can be wrong
 module _ (y : Layout) (law : Lawful y.system) (start : List ℕ) where
@@ -63,23 +47,15 @@ in_order :
     → ((k : ℕ) → ((count_of k ks ≡ 1) × (k < n)) ⊎ (g k ≡ [])) → ((k : ℕ) → (count_of k ks ≡ 0) ⊎ (g k ≡ steps k)) → (out : List ℕ)
     → Alone ps start (done ++ pile g n) out → Alone ps start (done ++ in_turn steps ks) out
 in_order ps start done g steps n ks pair once same out a =
-    let b = subst (λ (xs : List Step). Alone ps start (done ++ xs) out) (sym (append-nil (pile g n))) a in
-    let c = alike_after ps done (pile g n ++ []) (in_turn g ks ++ []) (arranged ps g pair n ks once []) start out b in
-    subst (λ (xs : List Step). Alone ps start (done ++ xs) out) (append-nil (in_turn g ks) ∙ in_turn_ext g steps ks same) c
+    rw (← in_turn_ext g steps ks same) (alike_after ps done (pile g n) (in_turn g ks) (arranged ps g pair n ks once) start out a)
 
 module _ (y : Layout) (law : Lawful y.system) (f : Falls y.parents) (start : List ℕ) (fit : Fit start) where
   -- Serial order, from the books.
   pub serial : (l : Ledger) (ws : List ℕ) (notes : ℕ → ℕ → Note) → Kept y start l ws notes → Serial y start l ws
   serial l ws notes kept ks arr =
       in_order y.parents start (in_turn l.steps l.order) (live l) l.steps (suc l.jobs.opened) ks kept.books.pairwise
-      (λ k.
-      elim (cases_Bool (is_open (l.jobs.status k))) [
-        | inl o ↦ inl (arr k ∙ rw o, given y start l ws notes kept k (open_not_ended (l.jobs.status k) o))
-        | inr o ↦ inr (live_shut l k o)
-      ])
-      (λ k.
-      elim (cases_Bool (is_open (l.jobs.status k)))
-      [ inl o ↦ inr (live_open l k o) | inr o ↦ inl (arr k ∙ rw o) ])
+      (λ k. grind (arith, nat_tests, arr k, given kept k, open_not_ended (l.jobs.status k)))
+      (λ k. grind (arith, nat_tests, arr k))
       ws kept.books.serial
 
   -- The same without one job, whose work is taken back.
@@ -90,29 +66,11 @@ module _ (y : Layout) (law : Lawful y.system) (f : Falls y.parents) (start : Lis
   serial_without l ws notes kept j ks arr open_j =
       in_order y.parents start (in_turn l.steps l.order) (put j [] (live l)) l.steps (suc l.jobs.opened) ks
       (pairwise_clear y.parents (live l) kept.books.pairwise j)
-      (λ k.
-      elim (cases_eq k j) [
-        | inl e ↦ inr (put_at j [] (live l) k e)
-        | inr e ↦
-            elim (cases_Bool (is_open (l.jobs.status k))) [
-              | inl o ↦
-                  let d = ne_eqb k j e in
-                  inl (arr k ∙ rw (d, o), given y start l ws notes kept k (open_not_ended (l.jobs.status k) o))
-              | inr o ↦ inr (put_other j [] (live l) k e ∙ live_shut l k o)
-            ]
-      ])
-      (λ k.
-      elim (cases_eq k j) [
-        | inl e ↦ let d = eq-eqb k j e in inl (arr k ∙ rw d)
-        | inr e ↦
-            elim (cases_Bool (is_open (l.jobs.status k))) [
-              | inl o ↦ inr (put_other j [] (live l) k e ∙ live_open l k o)
-              | inr o ↦ let d = ne_eqb k j e in inl (arr k ∙ rw (d, o))
-            ]
-      ])
+      (λ k. grind (arith, nat_tests, arr k, given kept k, open_not_ended (l.jobs.status k)))
+      (λ k. grind (arith, nat_tests, arr k))
       (taken_back (notes j) ws)
-      (without y.parents start fit (in_turn l.steps l.order) (live l) (suc l.jobs.opened) ws notes kept.books j
-      (given y start l ws notes kept j (open_not_ended (l.jobs.status j) open_j)))
+      (without _ _ fit kept.books j
+      (given kept j (open_not_ended (l.jobs.status j) open_j)))
 
   -- What a list of calls leaves, and what holds of each of them.
   record Ran (l : Ledger) (events : List Event) (end : Model) : Type 0 where
@@ -127,7 +85,7 @@ module _ (y : Layout) (law : Lawful y.system) (f : Falls y.parents) (start : Lis
       → Ran l (history y cs (model_of l ws notes)) (served y cs (model_of l ws notes))
   ran [] l ws notes kept = record { words = ws; notes = notes; model = refl; keeps = kept; each = tt }
   ran (c ∷ cs) l ws notes kept =
-      let m = served_kept y law f start fit l ws notes kept c in
+      let m = served_kept law f fit kept c in
       let s = serve y c (model_of l ws notes) in
       let l' = next y l (c, s.said) in
       let rest = ran cs l' m.words m.notes' m.keeps in
@@ -177,6 +135,3 @@ take_back_exact s law parents words ok start fit calls j ks arr open_j =
     let l = written y blank (history y calls (fresh start)) in
     subst (λ (x : Model). Alone parents start (in_turn l.steps l.order ++ in_turn l.steps ks) (taken_back (x.notes j) x.words))
     (sym r.model) (serial_without y law f start fit l r.words r.notes r.keeps j ks arr open_j)
-
-pub refused_leaves_equal : RefusedLeavesEqual
-refused_leaves_equal y c m r e = ap (λ x. refused_or x m (grant y c m)) e

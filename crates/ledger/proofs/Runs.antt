@@ -1,6 +1,7 @@
 -- Runs of steps: cut, joined, moved past one another, and what they do to one place.
-use Rattle.std.proofs.Common.{◌≡◌, ℕ, ◌<◌, List, [], ◌∷◌, ◌++◌, length, get_or, sym, refl, ap, ◌∙◌, subst, arith}
+use Rattle.std.proofs.Common.{◌≡◌, ℕ, ◌<◌, List, [], ◌∷◌, ◌++◌, length, get_or, sym, refl, ap, ◌∙◌, append-nil, subst, arith}
 use Rattle.std.specs.List.{AllByRecursion}
+use Rattle.std.proofs.lemmas.List.Elements.{All-weaker, All-append, All-from_recursion, recursion_from_All}
 use Rattle.operations.specs.Words.{after, left_at}
 use Rattle.operations.specs.Alone.{Step, Alone}
 use Rattle.ledger.specs.Collisions.{Apart, ListsApart}
@@ -10,6 +11,14 @@ use Rattle.ledger.proofs.Swaps.{apart_comm, swap, length_after, word_after}
 abbrev pub effect : List ℕ → List Step → ℕ → ℕ → ℕ
 effect ps [] r w = w
 effect ps (s ∷ ss) r w = effect ps ss r (left_at ps s.0 r w)
+
+-- std's lemmas on `All`, for the same fact by recursion on the list
+pub all_weaker :
+    {X : Type 0} {P Q : X → Type 0} → ((x : X) → P x → Q x) → (xs : List X) → AllByRecursion P xs → AllByRecursion Q xs
+all_weaker {P = P} {Q = Q} f xs h = recursion_from_All Q xs (All-weaker P Q f xs (All-from_recursion P xs h))
+
+pub all_++ : {X : Type 0} (P : X → Type 0) (xs ys : List X) → AllByRecursion P xs → AllByRecursion P ys → AllByRecursion P (xs ++ ys)
+all_++ P xs ys h k = recursion_from_All P (xs ++ ys) (All-append P xs ys (All-from_recursion P xs h) (All-from_recursion P ys k))
 
 module _ (ps : List ℕ) where
   pub split :
@@ -37,6 +46,11 @@ module _ (ps : List ℕ) where
       let r = split p xs ws out a in
       join p ys ws r.0 out r.1 (h r.0 out r.2)
 
+  alike_before : (p xs ys : List Step) → Alike xs ys → Alike (xs ++ p) (ys ++ p)
+  alike_before p xs ys h ws out a =
+      let r = split xs p ws out a in
+      join ys p ws r.0 out (h ws r.0 r.1) r.2
+
   -- a step past a list, and a list past a list
   past : (s : Step) (ys rest : List Step) → AllByRecursion (λ t. Apart ps s.0 t.0) ys → Alike (s ∷ (ys ++ rest)) (ys ++ s ∷ rest)
   past s [] rest h ws out a = a
@@ -44,15 +58,13 @@ module _ (ps : List ℕ) where
       let b = swap ps s y (ys ++ rest) ws out h.0 a in
       (b.0, past s ys rest h.1 (after ps y.0 ws) out b.1)
 
-  pub exchange : (xs ys rest : List Step) → ListsApart ps xs ys → Alike (xs ++ (ys ++ rest)) (ys ++ (xs ++ rest))
-  exchange [] ys rest h ws out a = a
-  exchange (x ∷ xs) ys rest h ws out a =
-      past x ys (xs ++ rest) h.0 ws out (a.0, exchange xs ys rest h.1 (after ps x.0 ws) out a.1)
+  exchange : (xs ys : List Step) → ListsApart ps xs ys → Alike (xs ++ ys) (ys ++ xs)
+  exchange [] ys h ws out a = rw append-nil a
+  exchange (x ∷ xs) ys h ws out a = past x ys xs h.0 ws out (a.0, exchange xs ys h.1 (after ps x.0 ws) out a.1)
 
   -- being apart goes both ways, and over lists put together
   pub apart_one : (t : Step) (ss : List Step) → AllByRecursion (λ s. Apart ps t.0 s.0) ss → AllByRecursion (λ s. Apart ps s.0 t.0) ss
-  apart_one t [] h = tt
-  apart_one t (s ∷ ss) h = (apart_comm ps t.0 s.0 h.0, apart_one t ss h.1)
+  apart_one t ss h = all_weaker (λ s. apart_comm ps t.0 s.0) ss h
 
   pub apart_none : (ts : List Step) → ListsApart ps ts []
   apart_none [] = tt
@@ -67,10 +79,6 @@ module _ (ps : List ℕ) where
   apart_sym [] ts h = apart_none ts
   apart_sym (s ∷ ss) ts h = cons_apart s ss ts (apart_one s ts h.0) (apart_sym ss ts h.1)
 
-  all_++ : (P : Step → Type 0) (xs ys : List Step) → AllByRecursion P xs → AllByRecursion P ys → AllByRecursion P (xs ++ ys)
-  all_++ P [] ys h k = k
-  all_++ P (x ∷ xs) ys h k = (h.0, all_++ P xs ys h.1 k)
-
   pub apart_++ : (ss xs ys : List Step) → ListsApart ps ss xs → ListsApart ps ss ys → ListsApart ps ss (xs ++ ys)
   apart_++ [] xs ys h k = tt
   apart_++ (s ∷ ss) xs ys h k = (all_++ (λ t. Apart ps s.0 t.0) xs ys h.0 k.0, apart_++ ss xs ys h.1 k.1)
@@ -82,23 +90,14 @@ module _ (ps : List ℕ) where
   abbrev pub Same : List Step → List Step → Type 0
   Same xs ys = Alike xs ys × Alike ys xs
 
-  pub same_is : (xs ys : List Step) → xs ≡ ys → Same xs ys
-  same_is xs ys e = (
-    λ ws out a. subst (λ (z : List Step). Alone ps ws z out) e a,
-    λ ws out a. subst (λ (z : List Step). Alone ps ws z out) (sym e) a,
-  )
-
-  pub same_sym : (xs ys : List Step) → Same xs ys → Same ys xs
-  same_sym xs ys h = (h.1, h.0)
-
   pub same_trans : (xs ys zs : List Step) → Same xs ys → Same ys zs → Same xs zs
   same_trans xs ys zs h k = (λ ws out a. k.0 ws out (h.0 ws out a), λ ws out a. h.1 ws out (k.1 ws out a))
 
-  pub same_after : (p xs ys : List Step) → Same xs ys → Same (p ++ xs) (p ++ ys)
-  same_after p xs ys h = (alike_after p xs ys h.0, alike_after p ys xs h.1)
+  pub same_before : (p xs ys : List Step) → Same xs ys → Same (xs ++ p) (ys ++ p)
+  same_before p xs ys h = (alike_before p xs ys h.0, alike_before p ys xs h.1)
 
-  pub same_exchange : (xs ys rest : List Step) → ListsApart ps xs ys → Same (xs ++ (ys ++ rest)) (ys ++ (xs ++ rest))
-  same_exchange xs ys rest h = (exchange xs ys rest h, exchange ys xs rest (apart_sym xs ys h))
+  pub same_exchange : (xs ys : List Step) → ListsApart ps xs ys → Same (xs ++ ys) (ys ++ xs)
+  same_exchange xs ys h = (exchange xs ys h, exchange ys xs (apart_sym xs ys h))
 
   -- what a run leaves at a place
   pub effect_++ : (xs ys : List Step) (r w : ℕ) → effect ps (xs ++ ys) r w ≡ effect ps ys r (effect ps xs r w)

@@ -1,31 +1,30 @@
 -- Every call keeps what is kept, is answered as the ledger asks, and lets the oldest job go on.
-use Rattle.std.proofs.Common.{◌≡◌, ℕ, zero, suc, ◌<◌, ◌≤◌, Bool, true, false, ◌&&◌, List, [], ◌∷◌, ◌++◌, get_or, Some, None, Option, sym, refl, ap, ◌∙◌, subst, ap₂, inl, inr, arith}
+use Rattle.std.proofs.Common.{◌≡◌, ℕ, zero, suc, ◌<◌, ◌≤◌, Bool, true, false, ◌&&◌, List, [], ◌∷◌, length, length-append, Some, None, Option, sym, refl, ap, ◌∙◌, ap₂, inl, inr, arith}
 use Rattle.std.specs.List.{AllByRecursion}
-use Rattle.std.proofs.lemmas.Bool.{cases_eq, cases_lt, cases_Bool, both_ways, not-false}
+use Rattle.std.proofs.lemmas.Bool.Decides.{nat_tests}
+use Rattle.std.proofs.lemmas.Bool.{cases_Bool, both_ways, not-false}
 use Rattle.modes.specs.Systems.{Lawful}
 use Rattle.shelf.specs.Words.{Fit}
-use Rattle.granules.specs.Paths.{path, record_beneath, records_beneath, among}
+use Rattle.granules.specs.Paths.{path, records_beneath, among}
 use Rattle.granules.proofs.Climbs.{Falls, path_root, path_step}
 use Rattle.operations.specs.declared.operation.Action.{Action}
 use Rattle.operations.specs.declared.operation.Action.TheVariants.{Read, Mean, Set, Add}
 use Rattle.operations.specs.declared.operation.Operation.{Operation}
-use Rattle.operations.specs.declared.operation.Outcome.{Outcome}
-use Rattle.operations.specs.declared.operation.Outcome.TheVariants.{Done}
 use Rattle.operations.specs.Actions.{kind}
-use Rattle.operations.specs.Words.{sum, told, answer, after}
+use Rattle.operations.specs.Words.{sum, told, answer}
 use Rattle.ledger.specs.declared.call.Answer.{Answer}
-use Rattle.ledger.specs.declared.call.Answer.TheVariants.{Job, Told, Waits, Head, Refused}
+use Rattle.ledger.specs.declared.call.Answer.TheVariants.{Told, Waits}
 use Rattle.ledger.specs.declared.call.Call.{Call}
 use Rattle.ledger.specs.declared.call.Call.TheVariants.{Lay, Open, Carry, Go, Again, Commit, GiveUp, Look}
 use Rattle.ledger.specs.declared.refusal.Refusal.{Refusal}
 use Rattle.ledger.specs.Refusals.{number, rows, can_meet, fits, first_of, refusal, job_of}
-use Rattle.ledger.specs.Jobs.{Status, working, waiting, wounded, ended, is_open, is_wounded, is_ended, put, now_is}
+use Rattle.ledger.specs.Jobs.{Status, working, waiting, ended, is_open, is_wounded, is_ended, put, now_is}
 use Rattle.ledger.specs.Walks.{Walked, walk}
 use Rattle.ledger.specs.Ledgers.{Layout, Ledger, facts, wanted, attempt, ledger_hands, noting, note_step, tried, granted, unless_refused, next}
 use Rattle.ledger.specs.Promises.{Shaped, Operated, Granted, ByRefusal, Oldest}
 use Rattle.ledger.specs.Collisions.{covered}
-use Rattle.ledger.specs.Models.{Note, nothing, noted, Model, Served, model_hands, carried, try, grant, refused_or, serve}
-use Rattle.ledger.proofs.Piles.{put_same, put_at, put_other}
+use Rattle.ledger.specs.Models.{Note, Model, Served, model_hands, carried, try, grant, refused_or, serve}
+use Rattle.ledger.proofs.Piles.{put_same, put_other}
 use Rattle.ledger.proofs.Kept.{Kept, live_open, live_shut, open_not_ended}
 use Rattle.ledger.proofs.Walking.{model_of, walk_kept, path_ends}
 use Rattle.ledger.proofs.Moves.{turn_kept, open_kept, commit_kept, giveup_kept, carry_kept}
@@ -33,54 +32,18 @@ use Rattle.ledger.proofs.Moves.{turn_kept, open_kept, commit_kept, giveup_kept, 
 -- what no row fits, row by row
 first_none : (p : Refusal → Bool) (rs : List Refusal) → first_of p rs ≡ None → AllByRecursion (λ r. p r ≡ false) rs
 first_none p [] e = tt
-first_none p (r ∷ rs) e =
-    elim (cases_Bool (p r)) [
-      | inl t ↦ absurd (clash r (sym (found t) ∙ e))
-      | inr t ↦ (t, first_none p rs (sym (missed t) ∙ e))
-    ]
-  where
-    found : p r ≡ true → first_of p (r ∷ rs) ≡ Some r
-    found t = rw (t, first_of)
-
-    missed : p r ≡ false → first_of p (r ∷ rs) ≡ first_of p rs
-    missed t = rw (t, first_of)
-
-    clash : (r : Refusal) → Some r ≡ None → ⊥
-    clash r c = let z : ◌≡◌ {A = ℕ} 0 1 = cc in omega arith
-
-told_not_waits : (o : Outcome) → Told o ≡ Waits → ⊥
-told_not_waits o e = let z : ◌≡◌ {A = ℕ} 0 1 = cc in omega arith
-
-job_not_waits : (n : ℕ) → Job n ≡ Waits → ⊥
-job_not_waits n e = let z : ◌≡◌ {A = ℕ} 0 1 = cc in omega arith
-
-head_not_waits : (m n : ℕ) → Head m n ≡ Waits → ⊥
-head_not_waits m n e = let z : ◌≡◌ {A = ℕ} 0 1 = cc in omega arith
-
-refused_not_waits : (r : Refusal) → Refused r ≡ Waits → ⊥
-refused_not_waits r e = let z : ◌≡◌ {A = ℕ} 0 1 = cc in omega arith
+first_none p (r ∷ rs) e = (grind (arith, nat_tests), first_none p rs (grind (arith, nat_tests)))
 
 -- one of two by a test
 pick_true : {A : Type 0} (b : Bool) (x z : A) → b ≡ true → (elim b as (λ _. A) [ true ↦ x | false ↦ z ]) ≡ x
-pick_true true x z e = refl
-pick_true false x z e = absurd (both_ways false refl e)
+pick_true b x z e = rw e
 
 pick_false : {A : Type 0} (b : Bool) (x z : A) → b ≡ false → (elim b as (λ _. A) [ true ↦ x | false ↦ z ]) ≡ z
-pick_false true x z e = absurd (both_ways true e refl)
-pick_false false x z e = refl
+pick_false b x z e = rw e
 
 -- which states are left when some are ruled out
 still_open : (st : Status) → is_ended st ≡ false → is_wounded st ≡ false → is_open st ≡ true
-still_open working a b = refl
-still_open (waiting o) a b = refl
-still_open wounded a b = sym b
-still_open ended a b = sym a
-
-wounded_lives : (st : Status) → is_wounded st ≡ true → (is_ended st ≡ false) × (is_open st ≡ false)
-wounded_lives working e = absurd (both_ways false refl e)
-wounded_lives (waiting o) e = absurd (both_ways false refl e)
-wounded_lives wounded e = (refl, refl)
-wounded_lives ended e = absurd (both_ways false refl e)
+still_open st a b = grind (arith, nat_tests)
 
 -- the state after an attempt is open
 abbrev tried_state : Operation → Bool → Status
@@ -97,18 +60,12 @@ shaped (Set w) s c = tt
 shaped (Add w) s c = tt
 
 path_some : (ps : List ℕ) → Falls ps → (g : ℕ) → path ps g ≡ [] → ⊥
-path_some ps f zero e = let z : 0 ∷ [] ≡ [] = sym (path_root ps) ∙ e in clash 0 z
-  where
-    clash : (x : ℕ) → x ∷ [] ≡ [] → ⊥
-    clash x c = let z : ◌≡◌ {A = ℕ} 0 1 = cc in omega arith
-path_some ps f (suc g) e = push_some (path ps _) (sym (path_step ps f (suc g) (omega arith)) ∙ e)
-  where
-    push_some : (xs : List ℕ) → xs ++ suc g ∷ [] ≡ [] → ⊥
-    push_some [] c = let z : ◌≡◌ {A = ℕ} 0 1 = cc in omega arith
-    push_some (x ∷ xs) c = let z : ◌≡◌ {A = ℕ} 0 1 = cc in omega arith
+path_some ps f zero e = omega (arith, ap length (sym (path_root ps) ∙ e))
+path_some ps f (suc g) e =
+    omega (arith, simp length-append at (ap length (sym (path_step ps f (suc g) (omega arith)) ∙ e)))
 
-module _ (y : Layout) (law : Lawful y.system) (f : Falls y.parents) (start : List ℕ) (fit : Fit start) (l : Ledger) (ws : List ℕ)
-    (notes : ℕ → ℕ → Note) (kept : Kept y start l ws notes) where
+module _ {y : Layout} (law : Lawful y.system) (f : Falls y.parents) {start : List ℕ} (fit : Fit start) {l : Ledger} {ws : List ℕ}
+    {notes : ℕ → ℕ → Note} (kept : Kept y start l ws notes) where
   -- What an attempt leaves.
   record Attempted (j : ℕ) (o : Operation) (wl : Walked Ledger) (wm : Walked Model) : Type 0 where
     words : List ℕ
@@ -128,7 +85,7 @@ module _ (y : Layout) (law : Lawful y.system) (f : Falls y.parents) (start : Lis
       let k = kind o.action in
       let xs = path y.parents o.granule in
       let w =
-      walk_kept y law start fit k o.granule j xs l ws notes kept open_j (path_ends y.parents f o.granule)
+      walk_kept law fit k o.granule j xs kept open_j (path_ends y.parents f o.granule)
       in
       let wl = walk ledger_hands y.system k o.granule j xs l in
       let st = tried_state o wl.complete in
@@ -141,7 +98,7 @@ module _ (y : Layout) (law : Lawful y.system) (f : Falls y.parents) (start : Lis
             ap₂ (λ (b : Bool) (m : Model). model_hands.with_jobs (now_is j (tried_state o b) m.jobs) m) w.complete w.model;
         complete = w.complete;
         keeps =
-            turn_kept y law start fit wl.left w.words w.notes w.kept j st (open_not_ended (wl.left.jobs.status j) open_now)
+            turn_kept law fit w.kept j st (open_not_ended (wl.left.jobs.status j) open_now)
             ok.1 ok.2 ok.0 (live_open wl.left j open_now);
         state = put_same j st wl.left.jobs.status;
         older = λ i h. put_other j st wl.left.jobs.status i (λ (z : i ≡ j). omega arith) ∙ w.older i (omega arith);
@@ -160,7 +117,9 @@ module _ (y : Layout) (law : Lawful y.system) (f : Falls y.parents) (start : Lis
         (k : ℕ) → Oldest l.jobs k
         → (is_wounded (l.jobs.status k) ≡ false → is_wounded (l'.jobs.status k) ≡ false) × (job_of c ≡ k → said ≡ Waits → ⊥)
 
-  module _ (j : ℕ) (o : Operation) (open_j : is_open (l.jobs.status j) ≡ true) where
+  -- an operation tried: the same for a new one and for one that was waited for
+  module _ (c : Call) (j : ℕ) (o : Operation) (open_j : is_open (l.jobs.status j) ≡ true) (of_j : job_of c ≡ j)
+      (shows : (said : Answer) → Operated (attempt ledger_hands y j o l).complete o said → Granted y l c said) where
     abbrev mo : Model
     mo = model_of l ws notes
 
@@ -169,95 +128,56 @@ module _ (y : Layout) (law : Lawful y.system) (f : Falls y.parents) (start : Lis
 
     -- the oldest job is not younger than one that has not ended
     not_younger : (k : ℕ) → Oldest l.jobs k → k ≤ j
-    not_younger k old =
-        elim (cases_lt j k)
-        [ inl h ↦ absurd (both_ways (is_ended (l.jobs.status j)) (open_not_ended (l.jobs.status j) open_j) (old.1 j h)) | inr h ↦ h ]
+    not_younger k old = grind (arith, nat_tests, old.1 j, open_not_ended (l.jobs.status j))
 
     unhurt : (w : Attempted j o wl (attempt model_hands y j o mo)) (k : ℕ) → Oldest l.jobs k → is_wounded (l.jobs.status k) ≡ false → is_wounded (wl.left.jobs.status k) ≡ false
-    unhurt w k old h =
-        elim (cases_eq k j) [
-          | inl e ↦
-              ap (λ (x : ℕ). is_wounded (wl.left.jobs.status x)) e ∙ ap is_wounded w.state ∙ (tried_open o wl.complete).2
-          | inr e ↦ ap is_wounded (w.older k (omega (arith, not_younger k old))) ∙ h
-        ]
+    unhurt w k old h = grind (arith, nat_tests, w.older k, w.state, not_younger k old, (tried_open o wl.complete).2)
 
-    -- an operation tried: the same for a new one and for one that was waited for
-    record DoneTry (left : Model) (said : Answer) (l' : Ledger) : Type 0 where
-      words : List ℕ
-      notes' : ℕ → ℕ → Note
-      model : left ≡ model_of l' words notes'
-      keeps : Kept y start l' words notes'
-      operated : Operated wl.complete o said
-      unwounded : (k : ℕ) → Oldest l.jobs k → is_wounded (l.jobs.status k) ≡ false → is_wounded (l'.jobs.status k) ≡ false
-      goes_on : (k : ℕ) → Oldest l.jobs k → j ≡ k → said ≡ Waits → ⊥
-
-    tried_kept : DoneTry (try y j o mo).left (try y j o mo).said (tried y j o (try y j o mo).said l)
+    tried_kept : Moved c None (try y j o mo).left (try y j o mo).said (tried y j o (try y j o mo).said l)
     tried_kept =
         let w = attempted j o open_j in
         elim (cases_Bool wl.complete) [
-          | inl c ↦
+          | inl t ↦
               let before = model_of wl.left w.words w.notes' in
               let out = answer y.parents o w.words in
               let sv : try y j o mo ≡ record { left = carried y j o before; said = Told out } =
-              through (w.complete ∙ c) ∙ ap (λ (m : Model). record { left = carried y j o m; said = Told (answer y.parents o m.words) }) w.model
+              rw (w.complete ∙ t, try)
+              (ap (λ (m : Model). record { left = carried y j o m; said = Told (answer y.parents o m.words) }) w.model)
               in
               let l' : tried y j o (try y j o mo).said l ≡ note_step j (o, out) wl.left =
-              noted_through (try y j o mo).said c ∙ ap (λ (s : Served). note_step j (o, noting s.said) wl.left) sv
+              pick_true wl.complete (note_step j (o, noting (try y j o mo).said) wl.left) wl.left t
+              ∙ ap (λ (s : Served). note_step j (o, noting s.said) wl.left) sv
               in
               let op : is_open (wl.left.jobs.status j) ≡ true = ap is_open w.state ∙ (tried_open o wl.complete).0 in
               record {
-                words = after y.parents o w.words;
-                notes' =
-                    put j
-                    (λ r.
-                    elim (record_beneath y.parents o.granule r) as (λ _. Note)
-                    [ true ↦ noted o.action (get_or w.words r 0) (w.notes' j r) | false ↦ w.notes' j r ])
-                    w.notes';
-                model = ap (λ (s : Served). s.left) sv ∙ ap (λ (x : Ledger). model_of x (carried y j o before).words (carried y j o before).notes) (sym l');
-                keeps =
-                    subst
-                    (λ (x : Ledger). Kept y start x (carried y j o before).words (carried y j o before).notes) (sym l')
-                    (carry_kept y law start fit wl.left w.words w.notes' w.keeps f j o op (w.covers c));
-                operated =
-                    subst (λ (b : Bool). Operated b o (try y j o mo).said) (sym c)
-                    (out, ap (λ (s : Served). s.said) sv, shaped o.action (sum y.parents w.words o.granule) (records_beneath y.parents o.granule));
-                unwounded = λ k old h. ap (λ (x : Ledger). is_wounded (x.jobs.status k)) l' ∙ unhurt w k old h;
-                goes_on = λ k old e said. told_not_waits out (sym (ap (λ (s : Served). s.said) sv) ∙ said);
+                words = (carried y j o before).words;
+                notes' = (carried y j o before).notes;
+                model = rw (l', sv);
+                keeps = rw l' (carry_kept law fit w.keeps f j o op (w.covers t));
+                right =
+                    shows (try y j o mo).said
+                    (rw (t, sv) (out, refl, shaped o.action (sum y.parents w.words o.granule) (records_beneath y.parents o.granule)));
+                oldest = λ k old. (λ h. rw l' (unhurt w k old h), λ who said. let e = ap (λ (s : Served). s.said) sv in cc);
               }
-          | inr c ↦
+          | inr t ↦
               let wm = attempt model_hands y j o mo in
-              let sv : try y j o mo ≡ record { left = wm.left; said = Waits } = stopped_at (w.complete ∙ c) in
-              let l' : tried y j o (try y j o mo).said l ≡ wl.left = noted_stopped (try y j o mo).said c in
+              let sv : try y j o mo ≡ record { left = wm.left; said = Waits } = pick_false wm.complete _ _ (w.complete ∙ t) in
+              let l' : tried y j o (try y j o mo).said l ≡ wl.left = pick_false wl.complete _ wl.left t in
               record {
                 words = w.words;
                 notes' = w.notes';
-                model = ap (λ (s : Served). s.left) sv ∙ w.model ∙ ap (λ (x : Ledger). model_of x w.words w.notes') (sym l');
-                keeps = subst (λ (x : Ledger). Kept y start x w.words w.notes') (sym l') w.keeps;
-                operated = subst (λ (b : Bool). Operated b o (try y j o mo).said) (sym c) (ap (λ (s : Served). s.said) sv);
-                unwounded = λ k old h. ap (λ (x : Ledger). is_wounded (x.jobs.status k)) l' ∙ unhurt w k old h;
-                goes_on =
-                    λ k old e said.
-                    let b = w.stopped c in
-                    both_ways (is_ended (l.jobs.status b.0)) b.2 (old.1 b.0 (subst (λ (x : ℕ). b.0 < x) e b.1));
+                model = rw (l', sv) w.model;
+                keeps = rw l' w.keeps;
+                right = shows (try y j o mo).said (rw (t, sv) refl);
+                oldest =
+                    λ k old. (
+                      λ h. rw l' (unhurt w k old h),
+                      λ who said.
+                          let b = w.stopped t in
+                          both_ways (is_ended (l.jobs.status b.0)) b.2 (old.1 b.0 (rw (← who, of_j) b.1)),
+                    );
               }
         ]
-      where
-        through :
-            (attempt model_hands y j o mo).complete ≡ true
-            → try y j o mo
-            ≡ record { left = carried y j o (attempt model_hands y j o mo).left; said = Told (answer y.parents o (attempt model_hands y j o mo).left.words) }
-        through e = pick_true (attempt model_hands y j o mo).complete _ _ e
-
-        stopped_at :
-            (attempt model_hands y j o mo).complete ≡ false
-            → try y j o mo ≡ record { left = (attempt model_hands y j o mo).left; said = Waits }
-        stopped_at e = pick_false (attempt model_hands y j o mo).complete _ _ e
-
-        noted_through : (a : Answer) → wl.complete ≡ true → tried y j o a l ≡ note_step j (o, noting a) wl.left
-        noted_through a e = pick_true wl.complete _ _ e
-
-        noted_stopped : (a : Answer) → wl.complete ≡ false → tried y j o a l ≡ wl.left
-        noted_stopped a e = pick_false wl.complete _ _ e
 
   -- no row of the table fits a call
   abbrev NoRow : Call → Type 0
@@ -265,89 +185,38 @@ module _ (y : Layout) (law : Lawful y.system) (f : Falls y.parents) (start : Lis
 
   -- a job that another state has been put for is not wounded by it, nor is any other
   spared : (j : ℕ) (st : Status) → is_wounded st ≡ false → (k : ℕ) → is_wounded (l.jobs.status k) ≡ false → is_wounded (put j st l.jobs.status k) ≡ false
-  spared j st w k h =
-      elim (cases_eq k j) [
-        | inl e ↦ ap is_wounded (put_at j st l.jobs.status k e) ∙ w
-        | inr e ↦ ap is_wounded (put_other j st l.jobs.status k e) ∙ h
-      ]
+  spared j st w k h = grind (arith, nat_tests)
 
-  by_try :
-      (c : Call) (j : ℕ) (o : Operation) (open_j : is_open (l.jobs.status j) ≡ true) → job_of c ≡ j
-      → ((said : Answer) → Operated (attempt ledger_hands y j o l).complete o said → Granted y l c said)
-      → Moved c None (try y j o (model_of l ws notes)).left (try y j o (model_of l ws notes)).said
-      (tried y j o (try y j o (model_of l ws notes)).said l)
-  by_try c j o open_j e g =
-      let t = tried_kept j o open_j in
-      record {
-        words = t.words;
-        notes' = t.notes';
-        model = t.model;
-        keeps = t.keeps;
-        right = g (try y j o (model_of l ws notes)).said t.operated;
-        oldest = λ k old. (t.unwounded k old, λ who. t.goes_on k old (sym e ∙ who));
-      }
+  -- a call that wounds nobody and is not answered `waits`
+  plain :
+      (c : Call) (r : Option Refusal) (said : Answer) {l' : Ledger} {ws' : List ℕ} {notes₂ : ℕ → ℕ → Note} → Kept y start l' ws' notes₂
+      → ByRefusal r said (Granted y l c said) → (said ≡ Waits → ⊥)
+      → ((k : ℕ) → is_wounded (l.jobs.status k) ≡ false → is_wounded (l'.jobs.status k) ≡ false) → Moved c r (model_of l' ws' notes₂) said l'
+  plain c r said keeps right answered spares =
+      record { words = _; notes' = _; model = refl; keeps = keeps; right = right; oldest = λ k old. (spares k, λ who. answered) }
 
   granted_kept :
       (c : Call) → NoRow c
       → Moved c None (grant y c (model_of l ws notes)).left (grant y c (model_of l ws notes)).said
       (granted y c (grant y c (model_of l ws notes)).said l)
   granted_kept (Lay parents words) none = absurd (both_ways true none.1.1.1.1.1.1.1.1.1.0 refl)
-  granted_kept Open none =
-      record {
-        words = ws;
-        notes' = notes;
-        model = refl;
-        keeps = open_kept y law start fit l ws notes kept;
-        right = refl;
-        oldest =
-            λ k old.
-            (spared (suc l.jobs.opened) working refl k, λ who said. job_not_waits (suc l.jobs.opened) said);
-      }
+  granted_kept Open none = plain Open None _ (open_kept law fit kept) refl (λ w. cc) (spared (suc l.jobs.opened) working refl)
   granted_kept (Carry j o) none =
-      by_try (Carry j o) j o (still_open (l.jobs.status j) none.1.1.1.0 none.1.1.1.1.0) refl (λ said h. h)
+      tried_kept (Carry j o) j o (still_open (l.jobs.status j) none.1.1.1.0 none.1.1.1.1.0) refl (λ said h. h)
   granted_kept (Go j) none =
-      by_try (Go j) j (wanted (l.jobs.status j)) (still_open (l.jobs.status j) none.1.1.1.0 none.1.1.1.1.0) refl (λ said h. h)
+      tried_kept (Go j) j (wanted (l.jobs.status j)) (still_open (l.jobs.status j) none.1.1.1.0 none.1.1.1.1.0) refl (λ said h. h)
   granted_kept (Again j) none =
       let w = not-false (is_wounded (l.jobs.status j)) none.1.1.1.1.1.1.1.1.0 in
-      let lives = wounded_lives (l.jobs.status j) w in
-      record {
-        words = ws;
-        notes' = notes;
-        model = refl;
-        keeps =
-            turn_kept y law start fit l ws notes kept j working lives.0 refl refl refl (live_shut l j lives.1 ∙ sym (kept.clean j w));
-        right = refl;
-        oldest = λ k old. (spared j working refl k, λ who said. told_not_waits Done said);
-      }
+      let shut : is_open (l.jobs.status j) ≡ false = grind (arith, nat_tests) in
+      plain (Again j) None _
+      (turn_kept law fit kept j working (grind (arith, nat_tests)) refl refl refl (live_shut l j shut ∙ sym (kept.clean j w))) refl
+      (λ w. cc) (spared j working refl)
   granted_kept (Commit j) none =
-      record {
-        words = ws;
-        notes' = put j (λ _. nothing) notes;
-        model = refl;
-        keeps =
-            commit_kept y law start fit l ws notes kept j none.1.1.1.0
-            (still_open (l.jobs.status j) none.1.1.1.0 none.1.1.1.1.0);
-        right = refl;
-        oldest = λ k old. (spared j ended refl k, λ who said. told_not_waits Done said);
-      }
+      plain (Commit j) None _ (commit_kept law fit kept j none.1.1.1.0 (still_open (l.jobs.status j) none.1.1.1.0 none.1.1.1.1.0)) refl
+      (λ w. cc) (spared j ended refl)
   granted_kept (GiveUp j) none =
-      record {
-        words = _;
-        notes' = put j (λ _. nothing) notes;
-        model = refl;
-        keeps = giveup_kept y law start fit l ws notes kept j none.1.1.1.0;
-        right = refl;
-        oldest = λ k old. (spared j ended refl k, λ who said. told_not_waits Done said);
-      }
-  granted_kept (Look g) none =
-      record {
-        words = ws;
-        notes' = notes;
-        model = refl;
-        keeps = kept;
-        right = refl;
-        oldest = λ k old. ((λ h. h), λ who said. head_not_waits _ _ said);
-      }
+      plain (GiveUp j) None _ (giveup_kept law fit kept j none.1.1.1.0) refl (λ w. cc) (spared j ended refl)
+  granted_kept (Look g) none = plain (Look g) None _ kept refl (λ w. cc) (λ k h. h)
 
   -- A call, refused or not.
   pub served_kept :
@@ -361,13 +230,5 @@ module _ (y : Layout) (law : Lawful y.system) (f : Falls y.parents) (start : Lis
           → Moved c r (refused_or r (model_of l ws notes) (grant y c (model_of l ws notes))).left
           (refused_or r (model_of l ws notes) (grant y c (model_of l ws notes))).said
           (unless_refused r l (granted y c (refused_or r (model_of l ws notes) (grant y c (model_of l ws notes))).said l))
-      by_row (Some r) e =
-          record {
-            words = ws;
-            notes' = notes;
-            model = refl;
-            keeps = kept;
-            right = refl;
-            oldest = λ k old. ((λ h. h), λ who said. refused_not_waits r said);
-          }
+      by_row (Some r) e = plain c (Some r) _ kept refl (λ w. cc) (λ k h. h)
       by_row None e = granted_kept c (first_none (λ r. among (number r) (can_meet c) && fits (facts y l.jobs) c r) rows e)

@@ -1,5 +1,6 @@
 -- The cases at the edges, by computing them; what the ledger asks for in the story, by the theorem over all runs.
-use Rattle.std.proofs.Common.{◌≡◌, zero, suc, [], ◌∷◌, None, refl, subst, arith}
+use Rattle.std.proofs.Common.{◌≡◌, [], ◌∷◌, None, refl, subst, arith}
+use Rattle.std.proofs.lemmas.Grind.{common_steps}
 use Rattle.modes.specs.Rights.{counting}
 use Rattle.modes.specs.Laws.{lawful}
 use Rattle.modes.proofs.Entries.{known_entries}
@@ -49,13 +50,7 @@ uppermost =
     }
 
 fit : Fit first_words
-fit zero = omega arith
-fit (suc zero) = omega arith
-fit (suc (suc zero)) = omega arith
-fit (suc (suc (suc zero))) = omega arith
-fit (suc (suc (suc (suc zero)))) = omega arith
-fit (suc (suc (suc (suc (suc zero))))) = omega arith
-fit (suc (suc (suc (suc (suc (suc i)))))) = omega arith
+fit place = grind (arith, common_steps)
 
 laid : fault six.parents 6 ≡ None
 unfolding path

@@ -1,14 +1,14 @@
 -- Operations that are apart change places unnoticed.
 use Rattle.std.proofs.Common.{◌≡◌, ℕ, zero, suc, ◌<◌, Bool, true, false, List, [], ◌∷◌, length, get_or, sym, refl, ap, ◌∙◌, subst, inl, inr, arith}
 use Rattle.std.proofs.lemmas.List.{get_or_past}
-use Rattle.std.proofs.lemmas.Bool.{cases_lt, cases_Bool, cond-true, cond-false, both_ways}
+use Rattle.std.proofs.lemmas.Bool.{cases_lt, cases_Bool, cond-true, cond-false}
+use Rattle.std.proofs.lemmas.Bool.Decides.{nat_tests}
 use Rattle.modes.specs.declared.kind.Kind.{Kind}
-use Rattle.modes.specs.declared.kind.Kind.TheVariants.{Read as Reading, Set as Setting, Add as Adding}
+use Rattle.modes.specs.declared.kind.Kind.TheVariants.{Read as Reading}
 use Rattle.modes.specs.Kinds.{commutes}
 use Rattle.granules.specs.Below.{sum_below}
 use Rattle.granules.specs.Paths.{record_beneath, records_beneath}
 use Rattle.operations.specs.declared.operation.Action.{Action}
-use Rattle.operations.specs.declared.operation.Action.TheVariants.{Read, Mean, Set, Add}
 use Rattle.operations.specs.declared.operation.Operation.{Operation}
 use Rattle.operations.specs.Actions.{kind, changed}
 use Rattle.operations.specs.Words.{sum, told, answer, each_from, left_at, after}
@@ -17,38 +17,22 @@ use Rattle.operations.proofs.Places.{each_same, length_each, get_or_each}
 use Rattle.ledger.specs.Collisions.{Apart}
 
 pub commutes_comm : (k l : Kind) → commutes k l ≡ commutes l k
-commutes_comm Reading Reading = refl
-commutes_comm Reading Setting = refl
-commutes_comm Reading Adding = refl
-commutes_comm Setting Reading = refl
-commutes_comm Setting Setting = refl
-commutes_comm Setting Adding = refl
-commutes_comm Adding Reading = refl
-commutes_comm Adding Setting = refl
-commutes_comm Adding Adding = refl
+commutes_comm k l = grind (arith, nat_tests)
 
 pub apart_comm : (ps : List ℕ) (o p : Operation) → Apart ps o p → Apart ps p o
 apart_comm ps o p h r a b = commutes_comm (kind p.action) (kind o.action) ∙ h r b a
 
 -- actions that commute leave the same word in either order
 changed_comm : (a b : Action) (w : ℕ) → commutes (kind a) (kind b) ≡ true → changed a (changed b w) ≡ changed b (changed a w)
-changed_comm Read b w e = refl
-changed_comm Mean b w e = refl
-changed_comm (Set n) Read w e = refl
-changed_comm (Set n) Mean w e = refl
-changed_comm (Set n) (Set m) w e = absurd (both_ways false refl e)
-changed_comm (Set n) (Add m) w e = absurd (both_ways false refl e)
-changed_comm (Add n) Read w e = refl
-changed_comm (Add n) Mean w e = refl
-changed_comm (Add n) (Set m) w e = absurd (both_ways false refl e)
-changed_comm (Add n) (Add m) w e = omega arith
+changed_comm a b w e = grind (arith, nat_tests)
 
 -- an action that commutes with a read leaves each word
 reads_still : (a : Action) (w : ℕ) → commutes Reading (kind a) ≡ true → changed a w ≡ w
-reads_still Read w e = refl
-reads_still Mean w e = refl
-reads_still (Set n) w e = absurd (both_ways false refl e)
-reads_still (Add n) w e = absurd (both_ways false refl e)
+reads_still a w e = grind (arith, nat_tests)
+
+-- what is told depends on the sum only if the action commutes with a read
+told_same : (a : Action) (s t count : ℕ) → (commutes (kind a) Reading ≡ true → s ≡ t) → told a s count ≡ told a t count
+told_same a s t count h = grind (arith, nat_tests)
 
 module _ (ps : List ℕ) where
   pub left_in : (o : Operation) (r w : ℕ) → record_beneath ps o.granule r ≡ true → left_at ps o r w ≡ changed o.action w
@@ -61,16 +45,9 @@ module _ (ps : List ℕ) where
   left_comm o p h r w =
       elim (cases_Bool (record_beneath ps o.granule r)) [
         | inl a ↦
-            elim (cases_Bool (record_beneath ps p.granule r)) [
-              | inl b ↦
-                  left_in o r (left_at ps p r w) a
-                  ∙ ap (changed o.action) (left_in p r w b)
-                  ∙ changed_comm o.action p.action w (h r a b)
-                  ∙ ap (changed p.action) (sym (left_in o r w a))
-                  ∙ sym (left_in p r (left_at ps o r w) b)
-              | inr b ↦ ap (left_at ps o r) (left_out p r w b) ∙ sym (left_out p r (left_at ps o r w) b)
-            ]
-        | inr a ↦ left_out o r (left_at ps p r w) a ∙ ap (left_at ps p r) (sym (left_out o r w a))
+            elim (cases_Bool (record_beneath ps p.granule r))
+            [ inl b ↦ rw (a, b, left_at) (changed_comm o.action p.action w (h r a b)) | inr b ↦ rw (a, b, left_at) ]
+        | inr a ↦ rw (a, left_at)
       ]
 
   pub length_after : (o : Operation) (ws : List ℕ) → length (after ps o ws) ≡ length ws
@@ -97,19 +74,7 @@ module _ (ps : List ℕ) where
   sum_cong :
       (n : ℕ) (f : ℕ → Bool) (a b : ℕ → ℕ) → ((k : ℕ) → f k ≡ true → a k ≡ b k) → sum_below n f a ≡ sum_below n f b
   sum_cong zero f a b h = refl
-  sum_cong (suc n) f a b h =
-      let rest = sum_cong n f a b h in
-      elim (cases_Bool (f n)) [
-        | inl e ↦
-            let l = cond-true (f n) (a n) 0 e in
-            let r = cond-true (f n) (b n) 0 e in
-            let same = h n e in
-            omega arith
-        | inr e ↦
-            let l = cond-false (f n) (a n) 0 e in
-            let r = cond-false (f n) (b n) 0 e in
-            omega arith
-      ]
+  sum_cong (suc n) f a b h = grind (arith, nat_tests, sum_cong n f a b h, h n)
 
   -- what a read meets is not changed by an operation that is apart from it
   sum_still :
@@ -121,36 +86,14 @@ module _ (ps : List ℕ) where
       elim (cases_lt r (length ws)) [
         | inl l ↦
             word_after o ws r l
-            ∙ elim (cases_Bool (record_beneath ps o.granule r)) [
-              | inl c ↦ left_in o r (get_or ws r 0) c ∙ reads_still o.action (get_or ws r 0) (read_kind (kind p.action) (kind o.action) e (h r b c))
-              | inr c ↦ left_out o r (get_or ws r 0) c
-            ]
+            ∙ grind (arith, nat_tests, reads_still o.action (get_or ws r 0), h r)
         | inr l ↦ get_or_past (after ps o ws) r 0 (omega (arith, length_after o ws)) ∙ sym (get_or_past ws r 0 l)
       ])
-    where
-      read_kind : (k l : Kind) → commutes k Reading ≡ true → commutes k l ≡ true → commutes Reading l ≡ true
-      read_kind Reading l a b = b
-      read_kind Setting l a b = absurd (both_ways false refl a)
-      read_kind Adding l a b = absurd (both_ways false refl a)
 
   pub answer_still : (p o : Operation) → Apart ps p o → (ws : List ℕ) → answer ps p (after ps o ws) ≡ answer ps p ws
-  answer_still p o h ws = by_action p.action refl
-    where
-      count : ℕ
-      count = records_beneath ps p.granule
-
-      there : List ℕ → ℕ
-      there xs = sum ps xs p.granule
-
-      by_action : (a : Action) → p.action ≡ a → answer ps p (after ps o ws) ≡ answer ps p ws
-      by_action Read e =
-          ap (λ (s : ℕ). told p.action s count)
-          (sum_still p o h (ap (λ (x : Action). commutes (kind x) Reading) e) ws)
-      by_action Mean e =
-          ap (λ (s : ℕ). told p.action s count)
-          (sum_still p o h (ap (λ (x : Action). commutes (kind x) Reading) e) ws)
-      by_action (Set w) e = ap (λ (x : Action). told x (there (after ps o ws)) count) e ∙ sym (ap (λ (x : Action). told x (there ws) count) e)
-      by_action (Add w) e = ap (λ (x : Action). told x (there (after ps o ws)) count) e ∙ sym (ap (λ (x : Action). told x (there ws) count) e)
+  answer_still p o h ws =
+      told_same p.action (sum ps (after ps o ws) p.granule) (sum ps ws p.granule) (records_beneath ps p.granule)
+      (λ e. sum_still p o h e ws)
 
   -- two steps change places
   pub swap :

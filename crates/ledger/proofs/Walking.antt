@@ -1,6 +1,7 @@
 -- A walk keeps what is kept, and if it is completed the job covers the operation.
-use Rattle.std.proofs.Common.{◌≡◌, ℕ, zero, suc, ◌<◌, ◌≤◌, Bool, true, false, ◌&&◌, eqb, ◌⊎◌, List, [], ◌∷◌, ◌++◌, sym, refl, ap, ◌∙◌, subst, inl, inr, arith}
-use Rattle.std.proofs.lemmas.Bool.{cases_eq, cases_Bool, both_ways, eqb-true, eq-eqb, ne_eqb, and_from, or_left, or_right}
+use Rattle.std.proofs.Common.{◌≡◌, ℕ, zero, suc, ◌<◌, ◌≤◌, Bool, true, false, eqb, ◌⊎◌, List, [], ◌∷◌, ◌++◌, sym, refl, ap, ◌∙◌, subst, inl, inr, arith}
+use Rattle.std.proofs.lemmas.Bool.Decides.{nat_tests}
+use Rattle.std.proofs.lemmas.Bool.{cases_eq, cases_Bool, both_ways, eq-eqb, or_left}
 use Rattle.modes.specs.declared.kind.Kind.{Kind}
 use Rattle.modes.specs.Systems.{System, Lawful}
 use Rattle.shelf.specs.Words.{Fit}
@@ -8,14 +9,14 @@ use Rattle.granules.specs.Below.{some_below}
 use Rattle.granules.specs.Paths.{path}
 use Rattle.granules.proofs.Below.{some_at}
 use Rattle.granules.proofs.Climbs.{Falls, path_root, path_step}
-use Rattle.ledger.specs.Jobs.{is_open, is_ended, where_so, raise, wounded, put}
-use Rattle.ledger.specs.Walks.{Hands, Walked, must_give_way, yields, blocks, has, target, walk}
+use Rattle.ledger.specs.Jobs.{is_open, is_ended, where_so, raise}
+use Rattle.ledger.specs.Walks.{Hands, Walked, yields, blocks, has, target, walk}
 use Rattle.ledger.specs.Ledgers.{Layout, Ledger, ledger_hands}
 use Rattle.ledger.specs.Collisions.{covered}
 use Rattle.ledger.specs.Models.{Note, nothing, Model, model_hands, all_taken_back}
 use Rattle.ledger.proofs.Piles.{put_same}
-use Rattle.ledger.proofs.Wounds.{where_false, where_true}
-use Rattle.ledger.proofs.Kept.{Kept, judged_self, yields_young, blocks_old, stands_or_yields, open_not_ended, in_the_way, wound_kept, raise_kept, has_still}
+use Rattle.ledger.proofs.Wounds.{where_false, where_cases}
+use Rattle.ledger.proofs.Kept.{Kept, yields_young, blocks_old, stands_or_yields, open_not_ended, in_the_way, wound_kept, raise_kept, has_still}
 
 abbrev pub model_of : Ledger → List ℕ → (ℕ → ℕ → Note) → Model
 model_of l ws notes = record { jobs = l.jobs; words = ws; notes = notes }
@@ -49,10 +50,10 @@ module _ {S : Type 0} (h : Hands S) (s : System) (k : Kind) (g a x : ℕ) (xs : 
   walk_goes e f b = rw (e, f, b, walk)
 
 target_at : (s : System) (k : Kind) (g x m : ℕ) → x ≡ g → target s k g x m ≡ s.join m (s.full k)
-target_at s k g x m e = let t = eq-eqb x g e in rw (t, target)
+target_at s k g x m e = grind (arith, nat_tests)
 
 target_above : (s : System) (k : Kind) (g x m : ℕ) → (x ≡ g → ⊥) → target s k g x m ≡ s.join m (s.intent k)
-target_above s k g x m e = let t = ne_eqb x g e in rw (t, target)
+target_above s k g x m e = grind (arith, nat_tests)
 
 module _ (s : System) (law : Lawful s) where
   -- a join has its parts in it, and all that they had
@@ -60,21 +61,10 @@ module _ (s : System) (law : Lawful s) where
   has_joined m q w = eq-eqb _ _ (law.join_assoc m q q ∙ ap (s.join m) (law.join_same q w))
 
   has_more : (m q part : ℕ) → has s m part ≡ true → has s (s.join m q) part ≡ true
-  has_more m q part h =
-      let e = eqb-true (s.join m part) m h in
-      eq-eqb _ _
-      (law.join_assoc m q part
-      ∙ ap (s.join m) (law.join_comm q part)
-      ∙ sym (law.join_assoc m part q)
-      ∙ ap (λ (x : ℕ). s.join x q) e
-      )
+  has_more m q part h = grind (arith, nat_tests, law.join_assoc m q part, law.join_comm q part, law.join_assoc m part q)
 
   target_rises : (k : Kind) (g x m part : ℕ) → has s m part ≡ true → has s (target s k g x m) part ≡ true
-  target_rises k g x m part h =
-      elim (cases_eq x g) [
-        | inl e ↦ ap (λ (t : ℕ). has s t part) (target_at s k g x m e) ∙ has_more m (s.full k) part h
-        | inr e ↦ ap (λ (t : ℕ). has s t part) (target_above s k g x m e) ∙ has_more m (s.intent k) part h
-      ]
+  target_rises k g x m part h = grind (arith, nat_tests, has_more m (s.full k) part h, has_more m (s.intent k) part h)
 
 -- the last granule of a list is g
 abbrev pub Ends : ℕ → List ℕ → Type 0
@@ -113,15 +103,13 @@ pub record Stepped (y : Layout) (start : List ℕ) (k : Kind) (a : ℕ) (l : Led
   pub covers : wl.complete ≡ true → (covered y.system (wl.left.jobs.mode a) k xs ≡ true) ⊎ (xs ≡ [])
 
 stepped_as :
-    (y : Layout) (start : List ℕ) (k : Kind) (a : ℕ) (l : Ledger) (xs : List ℕ) (wl wl' : Walked Ledger) (wm wm' : Walked Model)
+    {y : Layout} {start : List ℕ} {k : Kind} {a : ℕ} {l : Ledger} {xs : List ℕ} {wl wl' : Walked Ledger} {wm wm' : Walked Model}
     → wl ≡ wl' → wm ≡ wm' → Stepped y start k a l xs wl' wm' → Stepped y start k a l xs wl wm
-stepped_as y start k a l xs wl wl' wm wm' e d h =
-    subst (λ (w : Walked Ledger). Stepped y start k a l xs w wm) (sym e)
-    (subst (λ (w : Walked Model). Stepped y start k a l xs wl' w) (sym d) h)
+stepped_as e d h = rw (e, d) h
 
-module _ (y : Layout) (law : Lawful y.system) (start : List ℕ) (fits : Fit start) (k : Kind) (g a : ℕ) where
+module _ {y : Layout} (law : Lawful y.system) {start : List ℕ} (fits : Fit start) (k : Kind) (g a : ℕ) where
   -- one granule of the way
-  module _ (x : ℕ) (xs : List ℕ) (l : Ledger) (ws : List ℕ) (notes : ℕ → ℕ → Note) (kept : Kept y start l ws notes)
+  module _ (x : ℕ) (xs : List ℕ) {l : Ledger} {ws : List ℕ} {notes : ℕ → ℕ → Note} (kept : Kept y start l ws notes)
       (open_a : is_open (l.jobs.status a) ≡ true) (ends : Ends g (x ∷ xs))
       (full : has y.system (l.jobs.mode a x) (y.system.full k) ≡ false) where
     -- what is wanted there, and who gives way
@@ -142,30 +130,25 @@ module _ (y : Layout) (law : Lawful y.system) (start : List ℕ) (fits : Fit sta
 
     -- who is in the way is open
     way_open : (i : ℕ) → y.system.stands (l.jobs.mode i x) wants ≡ false → is_open (l.jobs.status i) ≡ true
-    way_open i e =
-        elim (cases_Bool (is_open (l.jobs.status i)))
-        [ inl o ↦ o | inr o ↦ absurd (in_the_way y.system law l.jobs a x wants i e (kept.idle i x o)) ]
+    way_open i e = grind (arith, nat_tests, in_the_way y.system law l.jobs a x wants i e, kept.idle i x)
 
     hurt_open : (i : ℕ) → hurt i ≡ true → is_open (l.jobs.status i) ≡ true
     hurt_open i e = way_open i (yields_young y.system law l.jobs a x wants i e).1
 
     older₁ : (i : ℕ) → i ≤ a → ledger₁.jobs.status i ≡ l.jobs.status i
-    older₁ i h =
-        where_false hurt wounded l.jobs.status i
-        (elim (cases_Bool (hurt i))
-        [ inl e ↦ absurd (omega (arith, (yields_young y.system law l.jobs a x wants i e).0)) | inr e ↦ e ])
+    older₁ i h = grind (arith, nat_tests)
 
     asker_spared : hurt a ≡ false
-    asker_spared = ap must_give_way (judged_self y.system a wants a (l.jobs.mode a x) refl)
+    asker_spared = grind (arith, nat_tests)
 
     kept₁ : Kept y start ledger₁ words₁ notes₁
-    kept₁ = wound_kept y law start fits l ws notes kept hurt hurt_open
+    kept₁ = wound_kept law fits kept hurt hurt_open
 
     mode₁ : ledger₁.jobs.mode a ≡ l.jobs.mode a
     mode₁ = where_false hurt (λ _. 0) l.jobs.mode a asker_spared
 
     still₁ : (z part : ℕ) → has y.system (l.jobs.mode a z) part ≡ true → has y.system (ledger₁.jobs.mode a z) part ≡ true
-    still₁ z part h = ap (λ (f : ℕ → ℕ). has y.system (f z) part) mode₁ ∙ h
+    still₁ z part h = rw mode₁ h
 
     on_stop :
         some_below a (blocks y.system l.jobs a x wants) ≡ true
@@ -187,37 +170,41 @@ module _ (y : Layout) (law : Lawful y.system) (start : List ℕ) (fits : Fit sta
           covers = λ c. absurd (both_ways false refl c);
         }
 
-    -- the same target needs nothing: the intent is there, and this is not yet the last granule
-    on_same :
-        (wl : Walked Ledger) (wm : Walked Model) → eqb wants (l.jobs.mode a x) ≡ true → Stepped y start k a l xs wl wm
-        → Stepped y start k a l (x ∷ xs) wl wm
-    on_same wl wm same next =
-        let m = l.jobs.mode a x in
-        let s = y.system in
-        let above : x ≡ g → ⊥ =
-        λ e. both_ways (has s m (s.full k)) full (ap (λ (t : ℕ). eqb t m) (sym (target_at s k g x m e)) ∙ same)
-        in
-        let intent : has s m (s.intent k) ≡ true = ap (λ (t : ℕ). eqb t m) (sym (target_above s k g x m above)) ∙ same in
-        let m' = wl.left.jobs.mode a in
+    -- the rest of the way, from a ledger in which the job has all that it had, and here what it is to have
+    onward :
+        (l' : Ledger) → ((i : ℕ) → i ≤ a → l'.jobs.status i ≡ l.jobs.status i)
+        → ((z part : ℕ) → has y.system (l.jobs.mode a z) part ≡ true → has y.system (l'.jobs.mode a z) part ≡ true)
+        → (x ≡ g → has y.system (l'.jobs.mode a x) (y.system.full k) ≡ true)
+        → ((x ≡ g → ⊥) → has y.system (l'.jobs.mode a x) (y.system.intent k) ≡ true) → (wl : Walked Ledger) (wm : Walked Model)
+        → Stepped y start k a l' xs wl wm → Stepped y start k a l (x ∷ xs) wl wm
+    onward l' same more there above wl wm next =
         record {
           words = next.words;
           notes = next.notes;
           model = next.model;
           complete = next.complete;
           kept = next.kept;
-          older = next.older;
-          stopped = next.stopped;
-          still = next.still;
+          older = λ i h. next.older i h ∙ same i h;
+          stopped = λ c. let b = next.stopped c in (b.0, b.1, rw (← same b.0 (omega (arith, b.1))) b.2);
+          still = λ z part h. next.still z part (more z part h);
           covers =
               λ c.
-              elim (next.covers c) [
-                | inl rest ↦
-                    inl
-                    (or_right (has s (m' x) (s.full k)) (has s (m' x) (s.intent k) && covered s m' k xs)
-                    (and_from (has s (m' x) (s.intent k)) (covered s m' k xs) (next.still x (s.intent k) intent) rest))
-                | inr nil ↦ absurd (above (ends_last g x xs ends nil))
+              elim (cases_eq x g) [
+                | inl e ↦ inl (grind (arith, nat_tests, next.still x (y.system.full k) (there e)))
+                | inr e ↦
+                    elim (next.covers c) [
+                      | inl rest ↦ inl (grind (arith, nat_tests, next.still x (y.system.intent k) (above e)))
+                      | inr nil ↦ absurd (e (ends_last g x xs ends nil))
+                    ]
               ];
         }
+
+    -- the same target needs nothing: the intent is there, and this is not yet the last granule
+    on_same :
+        (wl : Walked Ledger) (wm : Walked Model) → eqb wants (l.jobs.mode a x) ≡ true → Stepped y start k a l xs wl wm
+        → Stepped y start k a l (x ∷ xs) wl wm
+    on_same wl wm same next =
+        onward l (λ i h. refl) (λ z part h. h) (λ e. grind (arith, nat_tests)) (λ e. grind (arith, nat_tests)) wl wm next
 
     -- nobody is in the way: the target becomes its mode
     module _ (free : some_below a (blocks y.system l.jobs a x wants) ≡ false) where
@@ -229,75 +216,32 @@ module _ (y : Layout) (law : Lawful y.system) (start : List ℕ) (fits : Fit sta
 
       alone₁ : (i : ℕ) → (i ≡ a → ⊥) → y.system.stands (ledger₁.jobs.mode i x) wants ≡ true
       alone₁ i d =
-          elim (cases_Bool (hurt i)) [
-            | inl e ↦
-                ap (λ (f : ℕ → ℕ). y.system.stands (f x) wants) (where_true hurt (λ _. 0) l.jobs.mode i e) ∙ law.stands_none wants
-            | inr e ↦
-                ap (λ (f : ℕ → ℕ). y.system.stands (f x) wants) (where_false hurt (λ _. 0) l.jobs.mode i e)
-                ∙ stands_or_yields y.system law l.jobs a x wants free i d e
-          ]
+          where_cases (λ f. y.system.stands (f x) wants ≡ true) hurt (λ _. 0) l.jobs.mode i (λ _. law.stands_none wants)
+          (stands_or_yields y.system law l.jobs a x wants free i d)
 
       rises₁ : (part : ℕ) → has y.system (ledger₁.jobs.mode a x) part ≡ true → has y.system wants part ≡ true
-      rises₁ part h =
-          target_rises y.system law k g x (l.jobs.mode a x) part
-          (ap (λ (f : ℕ → ℕ). has y.system (f x) part) (sym mode₁) ∙ h)
+      rises₁ part h = target_rises y.system law k g x (l.jobs.mode a x) part (rw mode₁ at h)
 
       kept₂ : Kept y start ledger₂ words₁ notes₁
-      kept₂ = raise_kept y law start fits ledger₁ words₁ notes₁ kept₁ a x wants open₁ alone₁ rises₁
+      kept₂ = raise_kept law fits kept₁ a x wants open₁ alone₁ rises₁
 
       mode₂ : ledger₂.jobs.mode a x ≡ wants
-      mode₂ =
-          ap (λ (f : ℕ → ℕ). f x) (put_same a (put x wants (ledger₁.jobs.mode a)) ledger₁.jobs.mode)
-          ∙ put_same x wants (ledger₁.jobs.mode a)
+      mode₂ = rw put_same (put_same x wants (ledger₁.jobs.mode a))
 
       on_go : (wl : Walked Ledger) (wm : Walked Model) → Stepped y start k a ledger₂ xs wl wm → Stepped y start k a l (x ∷ xs) wl wm
       on_go wl wm next =
-          let s = y.system in
-          let m = l.jobs.mode a x in
-          let m' = wl.left.jobs.mode a in
-          let rest_of = has s (m' x) (s.intent k) && covered s m' k xs in
-          record {
-            words = next.words;
-            notes = next.notes;
-            model = next.model;
-            complete = next.complete;
-            kept = next.kept;
-            older = λ i h. next.older i h ∙ older₁ i h;
-            stopped =
-                λ c.
-                let b = next.stopped c in
-                (b.0, b.1, ap is_ended (sym (older₁ b.0 (omega (arith, b.1)))) ∙ b.2);
-            still =
-                λ z part h.
-                next.still z part
-                (has_still y law start fits ledger₁ words₁ notes₁ kept₁ a x wants open₁ alone₁ rises₁ z part (still₁ z part h));
-            covers =
-                λ c.
-                elim (cases_eq x g) [
-                  | inl e ↦
-                      inl
-                      (or_left (has s (m' x) (s.full k)) rest_of
-                      (next.still x (s.full k)
-                      (ap (λ (t : ℕ). has s t (s.full k)) (mode₂ ∙ target_at s k g x m e) ∙ has_joined s law m (s.full k) (law.full_within k))))
-                  | inr e ↦
-                      elim (next.covers c) [
-                        | inl rest ↦
-                            inl
-                            (or_right (has s (m' x) (s.full k)) rest_of
-                            (and_from (has s (m' x) (s.intent k)) (covered s m' k xs)
-                            (next.still x (s.intent k)
-                            (ap (λ (t : ℕ). has s t (s.intent k)) (mode₂ ∙ target_above s k g x m e)
-                            ∙ has_joined s law m (s.intent k) (law.intent_within k)))
-                            rest))
-                        | inr nil ↦ absurd (e (ends_last g x xs ends nil))
-                      ]
-                ];
-          }
+          onward ledger₂ older₁
+          (λ z part h. has_still law fits kept₁ a x wants open₁ alone₁ rises₁ z part (still₁ z part h))
+          (λ e. rw (mode₂, target_at y.system k g x (l.jobs.mode a x) e) (has_joined y.system law _ _ (law.full_within k)))
+          (λ e. rw (mode₂, target_above y.system k g x (l.jobs.mode a x) e) (has_joined y.system law _ _ (law.intent_within k)))
+          wl wm next
 
-  pub walk_kept :
-      (xs : List ℕ) (l : Ledger) (ws : List ℕ) (notes : ℕ → ℕ → Note) → Kept y start l ws notes → is_open (l.jobs.status a) ≡ true → Ends g xs
-      → Stepped y start k a l xs (walk ledger_hands y.system k g a xs l) (walk model_hands y.system k g a xs (model_of l ws notes))
-  walk_kept [] l ws notes kept open_a ends =
+  -- a walk that is complete where it stands
+  done :
+      (xs : List ℕ) {l : Ledger} {ws : List ℕ} {notes : ℕ → ℕ → Note} → Kept y start l ws notes
+      → (covered y.system (l.jobs.mode a) k xs ≡ true) ⊎ (xs ≡ [])
+      → Stepped y start k a l xs (record { left = l; complete = true }) (record { left = model_of l ws notes; complete = true })
+  done xs {l = l} {ws = ws} {notes = notes} kept covers =
       record {
         words = ws;
         notes = notes;
@@ -307,59 +251,36 @@ module _ (y : Layout) (law : Lawful y.system) (start : List ℕ) (fits : Fit sta
         older = λ i h. refl;
         stopped = λ c. absurd (both_ways true c refl);
         still = λ z part h. h;
-        covers = λ _. inr refl;
+        covers = λ _. covers;
       }
-  walk_kept (x ∷ xs) l ws notes kept open_a ends =
+
+  pub walk_kept :
+      (xs : List ℕ) {l : Ledger} {ws : List ℕ} {notes : ℕ → ℕ → Note} → Kept y start l ws notes → is_open (l.jobs.status a) ≡ true → Ends g xs
+      → Stepped y start k a l xs (walk ledger_hands y.system k g a xs l) (walk model_hands y.system k g a xs (model_of l ws notes))
+  walk_kept [] kept open_a ends = done [] kept (inr refl)
+  walk_kept (x ∷ xs) {l = l} {ws = ws} {notes = notes} kept open_a ends =
       let s = y.system in
       let m = l.jobs.mode a x in
       let t = target s k g x m in
       let mo = model_of l ws notes in
-      let whole_l = walk ledger_hands s k g a (x ∷ xs) l in
-      let whole_m = walk model_hands s k g a (x ∷ xs) mo in
       elim (cases_Bool (has s m (s.full k))) [
         | inl full ↦
-            stepped_as y start k a l (x ∷ xs) whole_l (record { left = l; complete = true }) whole_m (record { left = mo; complete = true })
-            (walk_covered ledger_hands s k g a x xs l full) (walk_covered model_hands s k g a x xs mo full)
-            (record {
-              words = ws;
-              notes = notes;
-              model = refl;
-              complete = refl;
-              kept = kept;
-              older = λ i h. refl;
-              stopped = λ c. absurd (both_ways true c refl);
-              still = λ z part h. h;
-              covers = λ _. inl (or_left (has s m (s.full k)) (has s m (s.intent k) && covered s (l.jobs.mode a) k xs) full);
-            })
+            stepped_as (walk_covered ledger_hands s k g a x xs l full) (walk_covered model_hands s k g a x xs mo full)
+            (done (x ∷ xs) kept (inl (or_left _ _ full)))
         | inr full ↦
             elim (cases_Bool (eqb t m)) [
               | inl same ↦
-                  stepped_as y start k a l (x ∷ xs) whole_l (walk ledger_hands s k g a xs l) whole_m (walk model_hands s k g a xs mo)
-                  (walk_same ledger_hands s k g a x xs l full same) (walk_same model_hands s k g a x xs mo full same)
-                  (on_same x xs l ws notes kept open_a ends full (walk ledger_hands s k g a xs l) (walk model_hands s k g a xs mo) same
-                  (walk_kept xs l ws notes kept open_a (ends_tail g x xs ends)))
+                  stepped_as (walk_same ledger_hands s k g a x xs l full same) (walk_same model_hands s k g a x xs mo full same)
+                  (on_same x xs kept open_a ends full _ _ same (walk_kept xs kept open_a (ends_tail g x xs ends)))
               | inr differs ↦
                   elim (cases_Bool (some_below a (blocks s l.jobs a x t))) [
                     | inl held ↦
-                        stepped_as y start k a l (x ∷ xs) whole_l
-                        (record { left = ledger₁ x xs l ws notes kept open_a ends full; complete = false }) whole_m
-                        (record {
-                          left =
-                              model_of (ledger₁ x xs l ws notes kept open_a ends full) (words₁ x xs l ws notes kept open_a ends full)
-                              (notes₁ x xs l ws notes kept open_a ends full);
-                          complete = false;
-                        })
-                        (walk_stops ledger_hands s k g a x xs l full differs held) (walk_stops model_hands s k g a x xs mo full differs held)
-                        (on_stop x xs l ws notes kept open_a ends full held)
+                        stepped_as (walk_stops ledger_hands s k g a x xs l full differs held) (walk_stops model_hands s k g a x xs mo full differs held)
+                        (on_stop x xs kept open_a ends full held)
                     | inr free ↦
-                        let l₂ = ledger₂ x xs l ws notes kept open_a ends full free in
-                        let w₁ = words₁ x xs l ws notes kept open_a ends full in
-                        let n₁ = notes₁ x xs l ws notes kept open_a ends full in
-                        stepped_as y start k a l (x ∷ xs) whole_l (walk ledger_hands s k g a xs l₂) whole_m (walk model_hands s k g a xs (model_of l₂ w₁ n₁))
-                        (walk_goes ledger_hands s k g a x xs l full differs free) (walk_goes model_hands s k g a x xs mo full differs free)
-                        (on_go x xs l ws notes kept open_a ends full free (walk ledger_hands s k g a xs l₂) (walk model_hands s k g a xs (model_of l₂ w₁ n₁))
-                        (walk_kept xs l₂ w₁ n₁ (kept₂ x xs l ws notes kept open_a ends full free) (open₁ x xs l ws notes kept open_a ends full free)
-                        (ends_tail g x xs ends)))
+                        stepped_as (walk_goes ledger_hands s k g a x xs l full differs free) (walk_goes model_hands s k g a x xs mo full differs free)
+                        (on_go x xs kept open_a ends full free _ _
+                        (walk_kept xs (kept₂ x xs kept open_a ends full free) (open₁ x xs kept open_a ends full free) (ends_tail g x xs ends)))
                   ]
             ]
       ]

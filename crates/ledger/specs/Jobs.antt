@@ -3,12 +3,6 @@ use Rattle.std.specs.Prelude.{ℕ, suc, Bool, true, false, ◌==◌}
 pub use Rattle.ledger.specs.declared.job.Status.{Status}
 pub use Rattle.ledger.specs.declared.job.Status.TheVariants.{Working as working, Waiting as waiting, Wounded as wounded, Ended as ended}
 
-abbrev pub is_working : Status → Bool
-is_working working = true
-is_working (waiting o) = false
-is_working wounded = false
-is_working ended = false
-
 abbrev pub is_waiting : Status → Bool
 is_waiting working = false
 is_waiting (waiting o) = true
