@@ -55,6 +55,7 @@ fn all_of<T: Drop, F: Fn(&[u8]) -> Option<T>>(
     ensures value { (f : _) → ((entry : _) (r : _) → F.post read entry r → r ≡ f entry.now) → ReadAs vec_items (all_of f at 1 count (remains line.entry)) result }
 {
     let mut values = Vec::new(heap);
+    // Counted from 0: a loop over 1..=count can end in two places, each to be proved.
     for i in 0..count {
         let value = line
             .next_entry()
