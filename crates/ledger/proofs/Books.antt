@@ -86,37 +86,31 @@ pub record Good (ps start : List ℕ) (done : List Step) (live : ℕ → List St
   pub right : (k r : ℕ) → r < length ws → RightNote ps start done live n k r (notes k r)
 
 module _ (ps start : List ℕ) (fits : Fit start) where
-  -- the run with one job last: what the others leave, and what it does to that
-  apart_from :
-      (done : List Step) (live : ℕ → List Step) (n : ℕ) (ws : List ℕ) → Pairwise ps live → Alone ps start (done ++ pile live n) ws
-      → (k : ℕ) → k < n
-      → (mid : List ℕ) × Alone ps start (done ++ pile (put k [] live) n) mid × Alone ps mid (live k) ws
-  apart_from done live n ws h a k l =
-      let g = put k [] live in
-      let moved = alike_after ps done (pile live n) (pile g n ++ live k) (last ps live h k n l).0 start ws a in
-      split ps (done ++ pile g n) (live k) start ws (rw append_assoc moved)
+  -- the run of lists that are pairwise apart, with that of one job moved
+  module _ (done : List Step) (live : ℕ → List Step) (n : ℕ) (pair : Pairwise ps live) (k : ℕ) (l : k < n) where
+    -- that job last: what the others leave, and what it does to that; and back again
+    apart_from :
+        (ws : List ℕ) → Alone ps start (done ++ pile live n) ws
+        → (mid : List ℕ) × Alone ps start (done ++ pile (put k [] live) n) mid × Alone ps mid (live k) ws
+    apart_from ws a =
+        split ps (done ++ pile (put k [] live) n) (live k) start ws
+        (rw append_assoc (alike_after ps done (pile live n) (pile (put k [] live) n ++ live k) (last ps live pair k n l).0 start ws a))
 
-  -- and back again
-  together :
-      (done : List Step) (live : ℕ → List Step) (n : ℕ) (mid ws : List ℕ) → Pairwise ps live → (k : ℕ) → k < n
-      → Alone ps start (done ++ pile (put k [] live) n) mid → Alone ps mid (live k) ws → Alone ps start (done ++ pile live n) ws
-  together done live n mid ws h k l a b =
-      let g = put k [] live in
-      alike_after ps done (pile g n ++ live k) (pile live n) (last ps live h k n l).1 start ws
-      (rw append_assoc at (join ps (done ++ pile g n) (live k) start mid ws a b))
+    together :
+        (mid ws : List ℕ) → Alone ps start (done ++ pile (put k [] live) n) mid → Alone ps mid (live k) ws
+        → Alone ps start (done ++ pile live n) ws
+    together mid ws a b =
+        alike_after ps done (pile (put k [] live) n ++ live k) (pile live n) (last ps live pair k n l).1 start ws
+        (rw append_assoc at (join ps (done ++ pile (put k [] live) n) (live k) start mid ws a b))
 
-  -- the run with one job's steps before those of the others, and back again
-  to_front :
-      (done : List Step) (live : ℕ → List Step) (n : ℕ) (ws : List ℕ) → Pairwise ps live → (k : ℕ) → k < n
-      → Alone ps start (done ++ pile live n) ws → Alone ps start ((done ++ live k) ++ pile (put k [] live) n) ws
-  to_front done live n ws h k l a =
-      rw append_assoc (alike_after ps done (pile live n) (live k ++ pile (put k [] live) n) (first ps live h k n l).0 start ws a)
+    -- its steps before those of the others, and back again
+    to_front : (ws : List ℕ) → Alone ps start (done ++ pile live n) ws → Alone ps start ((done ++ live k) ++ pile (put k [] live) n) ws
+    to_front ws a =
+        rw append_assoc (alike_after ps done (pile live n) (live k ++ pile (put k [] live) n) (first ps live pair k n l).0 start ws a)
 
-  from_front :
-      (done : List Step) (live : ℕ → List Step) (n : ℕ) (ws : List ℕ) → Pairwise ps live → (k : ℕ) → k < n
-      → Alone ps start ((done ++ live k) ++ pile (put k [] live) n) ws → Alone ps start (done ++ pile live n) ws
-  from_front done live n ws h k l a =
-      alike_after ps done (live k ++ pile (put k [] live) n) (pile live n) (first ps live h k n l).1 start ws (rw append_assoc at a)
+    from_front : (ws : List ℕ) → Alone ps start ((done ++ live k) ++ pile (put k [] live) n) ws → Alone ps start (done ++ pile live n) ws
+    from_front ws a =
+        alike_after ps done (live k ++ pile (put k [] live) n) (pile live n) (first ps live pair k n l).1 start ws (rw append_assoc at a)
 
   -- a right note gives back the word of the others
   back_right :
@@ -135,7 +129,7 @@ module _ (ps start : List ℕ) (fits : Fit start) where
     -- To take a job back gives exactly the words of the others.
     pub without : (k : ℕ) → k < n → Alone ps start (done ++ pile (put k [] live) n) (taken_back (notes k) ws)
     without k l =
-        let p = apart_from done live n ws good.pairwise good.serial k l in
+        let p = apart_from done live n good.pairwise k l ws good.serial in
         let mid = p.0 in
         let back_at : ℕ → ℕ → ℕ = λ r w. back (notes k r) w in
         let long : length (taken_back (notes k) ws) ≡ length ws = length_each 0 back_at ws in
@@ -213,8 +207,8 @@ module _ (ps start : List ℕ) (fits : Fit start) where
         drop_one k done (taken_back (notes k) ws) (length_each 0 (λ r w. back (notes k r) w) ws) (without good k l)
         (λ j r e within set mid a.
         let f = put j [] live in
-        let p = apart_from done live n ws good.pairwise good.serial j (inside j r set) in
-        let q = apart_from done f n p.0 (pairwise_clear ps live good.pairwise j) p.1 k l in
+        let p = apart_from done live n good.pairwise j (inside j r set) ws good.serial in
+        let q = apart_from done f n (pairwise_clear ps live good.pairwise j) k l p.0 p.1 in
         let here : f k ≡ live k = put_other j [] live k (λ (z : k ≡ j). e (sym z)) in
         let ends : q.0 ≡ mid = same_end ps (done ++ pile (put k [] f) n) start q.0 mid q.1 a in
         let len : r < length q.0 = omega (arith, run_length ps (f k) q.0 p.0 q.2, run_length ps (live j) p.0 ws p.2) in (
@@ -229,11 +223,11 @@ module _ (ps start : List ℕ) (fits : Fit start) where
     -- A job that commits: its steps go to the end of those done.
     pub commit_one : (k : ℕ) → k < n → Good ps start (done ++ live k) (put k [] live) n ws (put k (λ _. nothing) notes)
     commit_one k l =
-        drop_one k (done ++ live k) ws refl (to_front done live n ws good.pairwise k l good.serial)
+        drop_one k (done ++ live k) ws refl (to_front done live n good.pairwise k l ws good.serial)
         (λ j r e within set mid a.
         let here : put j [] live k ≡ live k = put_other j [] live k (λ (z : k ≡ j). e (sym z)) in (
           mid,
-          from_front done (put j [] live) n mid (pairwise_clear ps live good.pairwise j) k l (rw here a),
+          from_front done (put j [] live) n (pairwise_clear ps live good.pairwise j) k l mid (rw here a),
           refl,
         ))
 
@@ -264,7 +258,7 @@ module _ (ps start : List ℕ) (fits : Fit start) where
           pairwise = wide;
           beyond = λ k h. put_other j longer live k (λ (z : k ≡ j). omega arith) ∙ good.beyond k h;
           serial =
-              together done live' n others.0 (after ps o ws) wide j l (rw cleared others.1)
+              together done live' n wide j l others.0 (after ps o ws) (rw cleared others.1)
               (rw (put_same j longer live) (alone_push ps others.0 (live j) step ws (after ps o ws) others.2 refl refl));
           right =
               λ k r h.
@@ -287,7 +281,7 @@ module _ (ps start : List ℕ) (fits : Fit start) where
         notes_j r = elim (record_beneath ps o.granule r) [ true ↦ noted o.action (get_or ws r 0) (notes j r) | false ↦ notes j r ]
 
         others : (mid : List ℕ) × Alone ps start (done ++ pile (put j [] live) n) mid × Alone ps mid (live j) ws
-        others = apart_from done live n ws good.pairwise good.serial j l
+        others = apart_from done live n good.pairwise j l ws good.serial
 
         cleared : pile (put j [] live') n ≡ pile (put j [] live) n
         cleared = pile_ext (put j [] live') (put j [] live) n (λ i _. grind (arith, nat_tests))
@@ -312,7 +306,7 @@ module _ (ps start : List ℕ) (fits : Fit start) where
             let f = put k [] live in
             let f' = put k [] live' in
             let c : j ≡ k → ⊥ = λ z. e (sym z) in
-            let q = apart_from done f' n mid (pairwise_clear ps live' wide k) a j l in
+            let q = apart_from done f' n (pairwise_clear ps live' wide k) j l mid a in
             let here : f' j ≡ longer = put_other k [] live' j c ∙ put_same j longer live in
             let parts = split ps (live j) (step ∷ []) q.0 mid (rw here at q.2) in
             let old = parts.0 in
@@ -320,7 +314,7 @@ module _ (ps start : List ℕ) (fits : Fit start) where
             pile_ext (put j [] f') (put j [] f) n (λ i _. grind (arith, nat_tests))
             in
             let run : Alone ps start (done ++ pile f n) old =
-            together done f n q.0 old (pairwise_clear ps live good.pairwise k) j l (rw same at q.1) (rw (put_other k [] live j c) parts.1)
+            together done f n (pairwise_clear ps live good.pairwise k) j l q.0 old (rw same at q.1) (rw (put_other k [] live j c) parts.1)
             in
             let long : r < length old =
             omega (arith, run_length ps (done ++ pile f n) start old run, run_length ps (done ++ pile live n) start ws good.serial)

@@ -1,5 +1,5 @@
 -- Every call keeps what is kept, is answered as the ledger asks, and lets the oldest job go on.
-use Rattle.std.proofs.Common.{◌≡◌, ℕ, zero, suc, ◌<◌, ◌≤◌, Bool, true, false, ◌&&◌, List, [], ◌∷◌, length, length-append, Some, None, Option, sym, refl, ap, ◌∙◌, ap₂, inl, inr, arith}
+use Rattle.std.proofs.Common.{◌≡◌, ℕ, zero, suc, ◌<◌, Bool, true, false, ◌&&◌, List, [], ◌∷◌, length, length-append, Some, None, Option, sym, refl, ap, ◌∙◌, ap₂, inl, inr, arith}
 use Rattle.std.specs.List.{AllByRecursion}
 use Rattle.std.proofs.lemmas.Bool.Decides.{nat_tests}
 use Rattle.std.proofs.lemmas.Bool.{cases_Bool, both_ways, not-false}
@@ -126,12 +126,9 @@ module _ {y : Layout} (law : Lawful y.system) (f : Falls y.parents) {start : Lis
     abbrev wl : Walked Ledger
     wl = attempt ledger_hands y j o l
 
-    -- the oldest job is not younger than one that has not ended
-    not_younger : (k : ℕ) → Oldest l.jobs k → k ≤ j
-    not_younger k old = grind (arith, nat_tests, old.1 j, open_not_ended (l.jobs.status j))
-
+    -- the oldest job is not wounded: it is not younger than one that has not ended
     unhurt : (w : Attempted j o wl (attempt model_hands y j o mo)) (k : ℕ) → Oldest l.jobs k → is_wounded (l.jobs.status k) ≡ false → is_wounded (wl.left.jobs.status k) ≡ false
-    unhurt w k old h = grind (arith, nat_tests, w.older k, w.state, not_younger k old, (tried_open o wl.complete).2)
+    unhurt w k old h = grind (arith, nat_tests, w.older k, w.state, old.1 j, open_not_ended (l.jobs.status j), (tried_open o wl.complete).2)
 
     tried_kept : Moved c None (try y j o mo).left (try y j o mo).said (tried y j o (try y j o mo).said l)
     tried_kept =

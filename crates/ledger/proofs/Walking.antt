@@ -138,14 +138,11 @@ module _ {y : Layout} (law : Lawful y.system) {start : List ℕ} (fits : Fit sta
     older₁ : (i : ℕ) → i ≤ a → ledger₁.jobs.status i ≡ l.jobs.status i
     older₁ i h = grind (arith, nat_tests)
 
-    asker_spared : hurt a ≡ false
-    asker_spared = grind (arith, nat_tests)
-
     kept₁ : Kept y start ledger₁ words₁ notes₁
     kept₁ = wound_kept law fits kept hurt hurt_open
 
     mode₁ : ledger₁.jobs.mode a ≡ l.jobs.mode a
-    mode₁ = where_false hurt (λ _. 0) l.jobs.mode a asker_spared
+    mode₁ = where_false hurt (λ _. 0) l.jobs.mode a (grind (arith, nat_tests))
 
     still₁ : (z part : ℕ) → has y.system (l.jobs.mode a z) part ≡ true → has y.system (ledger₁.jobs.mode a z) part ≡ true
     still₁ z part h = rw mode₁ h
