@@ -48,7 +48,8 @@ pub fn read_setting(heap: Global, line: &mut Line<'_>) -> Result<Setting> {
     })
 }
 
-// The operation of a job: the rest of an entry after its letter.
+// The operation of a job: the rest of an entry after its letter. The other program reads the same letters, in a text of its own; one
+// function for both would have to lie in a crate that reads no text.
 fn operation(letter: u8, rest: &[u8]) -> Option<(u32, Operation)> {
     let (place, word) = cut_at(rest, b'=');
     let (job, granule) = cut_at(place, b'.');
