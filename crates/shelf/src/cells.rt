@@ -73,12 +73,33 @@ pub type WordShelf = CellShelf<u32>;
 // Four bytes a word.
 pub type PackedShelf = CellShelf<[u8; 4]>;
 
+// How many of the places wanted a shelf of its own has.
+fn places(wanted: usize) -> usize
+    ensures { result ≡ min wanted 256 }
+{
+    wanted.min(MOST)
+}
+
+// A cell that holds 0.
+fn zero<C: Cell>() -> C
+    ensures { C.held result ≡ 0 }
+{
+    C::pack(0)
+}
+
+// A word put into a cell.
+fn fill<C: Cell>(cell: &mut C, word: u32)
+    ensures { C.held cell.new ≡ word }
+{
+    *cell = C::pack(word);
+}
+
 impl<C: Cell> CellShelf<C> {
     // A shelf of as many places as wanted, at most 256, which hold 0.
     pub fn new(heap: Global, wanted: usize) -> Result<CellShelf<C>, AllocError>
         ensures made { IfOk result (λ s. ⟦<CellShelf<C> as Shelf>⟧.words s ≡ replicate (min wanted 256) 0) }
     {
-        let cells = vec![in heap; C::pack(0); wanted.min(MOST)]?;
+        let cells = vec![in heap; zero::<C>(); places(wanted)]?;
         Ok(CellShelf { cells })
     }
 }
@@ -102,7 +123,7 @@ impl<C: Cell> Shelf for CellShelf<C> {
         let Some(cell) = self.cells.get_mut(place) else {
             return false;
         };
-        *cell = C::pack(word);
+        fill(cell, word);
         true
     }
 }

@@ -1,5 +1,5 @@
 // Two shelves end to end.
-ghost use Rattle.std.specs.Prelude.{◌≡◌, length};
+ghost use Rattle.std.specs.Prelude.{◌≡◌, ◌+◌, ◌≤◌, min};
 ghost use Rattle.shelf.specs.Sides.{Leads, side};
 ghost use Rattle.shelf.specs.Words.{joined};
 ghost use Rattle.shelf.specs.SidesLemmas.{joined_few, joined_fit};
@@ -31,21 +31,33 @@ enum Side {
     Second(usize),
 }
 
+// The side of a place, where the first shelf has `size` places; a place beyond the most lies on neither.
+fn side_of(size: usize, place: usize) -> Option<Side>
+    ensures { result ≡ side size place }
+{
+    if place >= LIMIT {
+        None
+    } else if place < size {
+        Some(Side::First(place))
+    } else {
+        Some(Side::Second(place - size))
+    }
+}
+
+// How many places two shelves of so many have end to end.
+fn size_of_both(first: usize, second: usize) -> usize
+    requires { (first ≤ 65536) × (second ≤ 65536) }
+    ensures { result ≡ min (first + second) 65536 }
+{
+    (first + second).min(LIMIT)
+}
+
 impl<A: Shelf, B: Shelf> JoinedShelf<A, B> {
-    // The side of a place, where a get and a put do what they should do at the place of the two. A place beyond the most
-    // lies on neither.
+    // The side of a place, where a get and a put do what they should do at the place of the two.
     fn side(&self, place: usize) -> Option<Side>
-        ensures value { result ≡ side (length (A.Shelf.words self.now.first)) place }
-        ensures leads { Leads (A.Shelf.words self.now.first) (B.Shelf.words self.now.second) place result }
+        ensures { Leads (A.Shelf.words self.now.first) (B.Shelf.words self.now.second) place result }
     {
-        let size = self.first.size();
-        if place >= LIMIT {
-            None
-        } else if place < size {
-            Some(Side::First(place))
-        } else {
-            Some(Side::Second(place - size))
-        }
+        side_of(self.first.size(), place)
     }
 }
 
@@ -57,7 +69,7 @@ impl<A: Shelf, B: Shelf> Shelf for JoinedShelf<A, B> {
     ghost fit = { λ s. joined_fit _ _ (A.Shelf.fit s.first) (B.Shelf.fit s.second) };
 
     fn size(&self) -> usize {
-        (self.first.size() + self.second.size()).min(LIMIT)
+        size_of_both(self.first.size(), self.second.size())
     }
 
     fn get(&self, place: usize) -> Option<u32> {

@@ -20,11 +20,11 @@ clones_hold_0 held is_clone same x (y ∷ ys) e all =
 pub invariant_of-result : goal.invariant_of-result
 invariant_of-result g c =
     let made = c.in_ok-cells.ensures in
-    let zeros = clones_hold_0 g.C.Cell.held g.C.Clone.is_clone g.met.C.Cell.clones c.pack.result _ c.pack.ensures.value made.items in
-    record { few = omega (arith, made.len); fit = subst Fit (sym zeros) (zeros_fit _) }
+    let zeros = clones_hold_0 g.C.Cell.held g.C.Clone.is_clone g.met.C.Cell.clones c.zero.result _ c.zero.ensures made.items in
+    record { few = omega (arith, made.len, c.places.ensures); fit = subst Fit (sym zeros) (zeros_fit _) }
 
 pub returns : goal.returns
 returns g c =
     let made = c.in_ok-cells.ensures in
-    let zeros = clones_hold_0 g.C.Cell.held g.C.Clone.is_clone g.met.C.Cell.clones c.pack.result _ c.pack.ensures.value made.items in
-    record { made = zeros ∙ ap (λ n. replicate n 0) (omega (arith, made.len)) }
+    let zeros = clones_hold_0 g.C.Cell.held g.C.Clone.is_clone g.met.C.Cell.clones c.zero.result _ c.zero.ensures made.items in
+    record { made = zeros ∙ ap (λ n. replicate n 0) (omega (arith, made.len, c.places.ensures)) }
