@@ -1,5 +1,6 @@
 -- What follows once a call has done what its definition says: histories go on, and the promise holds of them.
-use Rattle.std.proofs.Common.{◌≡◌, ℕ, List, [], ◌∷◌, ◌++◌, length, Some, None, Option, sym, refl, ap, ◌∙◌, subst, ap₂, arith}
+use Rattle.std.proofs.Common.{◌≡◌, ℕ, List, [], ◌∷◌, ◌++◌, length, false, true, is_some, Some, None, Option, Bor, sym, refl, ap, ◌∙◌, subst, ap₂, arith}
+use Rattle.std.proofs.lemmas.Bool.{both_ways}
 use Rattle.modes.specs.Systems.{System, Lawful}
 use Rattle.granules.specs.declared.tree.Tree.{Tree}
 use Rattle.granules.specs.Trees.{table}
@@ -7,7 +8,9 @@ use Rattle.operations.specs.declared.operation.Outcome.TheVariants.{Done}
 use Rattle.ledger.specs.declared.call.Answer.{Answer}
 use Rattle.ledger.specs.declared.call.Answer.TheVariants.{Told, Refused}
 use Rattle.ledger.specs.declared.call.Call.{Call}
+use Rattle.ledger.specs.declared.call.Call.TheVariants.{Lay}
 use Rattle.ledger.specs.declared.refusal.Refusal.{Refusal}
+use Rattle.ledger.specs.declared.refusal.Refusal.TheVariants.{AlreadyLaidOut}
 use Rattle.ledger.specs.Refusals.{refusal}
 use Rattle.ledger.specs.Ledgers.{Layout, Event}
 use Rattle.ledger.specs.Promises.{Promise}
@@ -17,6 +20,7 @@ use Rattle.ledger.proofs.Promised.{promise_kept}
 use Rattle.tables.specs.declared.kernel.Core.{Core}
 use Rattle.tables.specs.Turns.{layout}
 use Rattle.tables.specs.Views.{model}
+use Rattle.tables.proofs.Table.{denied}
 use Rattle.engine.specs.States.{State, state_by, first_call, laid_by, nothing_yet, bare, laid, Stepped, step, HasHistory, Keeps, Promised, Served, words_of}
 
 -- one call more
@@ -80,6 +84,14 @@ laid_serves s law c words tree t core core' a e f =
     subst (λ (o : Option Tree). Served s c (state_by words o core) (state_by words o core') a) (sym e)
     (serves s law c (laid (table t) (model words core)) (laid (table t) (model words core')) a
     (ap (λ (r : models.Served). record { left = laid (table t) r.left; said = r.said }) f))
+
+-- An engine that is laid out is not laid out again.
+pub once :
+    {M S : Type 0} (s : System) → Lawful s → (ps ws : Bor (List ℕ)) (words : S → List ℕ) (tree : Option Tree) (core : Core M S) → is_some tree ≡ true
+    → Served s (Lay ps ws) (state_by words tree core) (state_by words tree core) (Refused AlreadyLaidOut)
+once s law ps ws words None core e = absurd (both_ways false refl e)
+once s law ps ws words (Some t) core e =
+    laid_serves s law (Lay ps ws) words (Some t) t core core _ refl (denied (layout s t) (Lay ps ws) (model words core) AlreadyLaidOut refl)
 
 -- An engine that is laid out with a table, and keeps a history.
 pub record Follows (s : System) (ps first : List ℕ) (h : List Event) (st : State) : Type 0 where

@@ -37,6 +37,7 @@ pub fn run<M: ModeSystem + Drop, S: Shelf + Drop>(
             answers: Err(refusal),
         });
     }
+    // No `collect`: the memory is taken before the first call, so that none is served in vain.
     let mut answers = Vec::with_capacity(heap, calls.len())?;
     for call in calls {
         let answer = engine.serve(*call);

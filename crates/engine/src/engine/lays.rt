@@ -34,7 +34,7 @@ impl<M: ModeSystem, S: Shelf> Engine<M, S> {
         ensures served { Served M.ModeSystem.meaning (Lay parents.entry words.entry) (state S.Shelf.words self.old) (state S.Shelf.words self.new) (as_done result) }
         ensures begun { Begun M.ModeSystem.meaning words.now (state S.Shelf.words self.old) (state S.Shelf.words self.new) (as_done result) }
     {
-        if let Some(_) = &self.tree {
+        if self.tree.is_some() {
             return Err(Refusal::AlreadyLaidOut);
         }
         let tree = Tree::new(parents, words.len())?;

@@ -31,7 +31,8 @@ impl<M: ModeSystem, S: Shelf> Engine<M, S> {
         self.core.go(tree, job)
     }
 
-    // The sum of the words of the records beneath a granule, and how many records there are.
+    // The sum of the words of the records beneath a granule, and how many records there are. This, `mean` and `write` each take
+    // their own outcome apart; the closure of a `map` would not know that no other comes.
     pub fn read(&mut self, job: u32, granule: u32) -> Result<Option<(u64, u32)>, Refusal>
         ensures served { Served M.ModeSystem.meaning (Carry job (record { granule = granule; action = Read })) (state S.Shelf.words self.old) (state S.Shelf.words self.new) (as_figures result) }
     {
