@@ -17,6 +17,7 @@ pub enum Denied {
     Memory,
 }
 
+// The three conversions are written out: clauses name the error that a `?` makes, and a derive would state none.
 impl From<Unfit> for Denied {
     ghost from_gives = { λ unfit d. d ≡ Table unfit };
 
@@ -46,7 +47,7 @@ impl fmt::Display for Denied {
         match self {
             Denied::Entry(line, entry) => write!(f, "bad line {line} entry {entry}"),
             Denied::Table(unfit) => write!(f, "refused {}", unfit.number()),
-            Denied::Memory => write!(f, "out of memory"),
+            Denied::Memory => write!(f, "memory allocation failed"),
         }
     }
 }

@@ -69,7 +69,8 @@ fn all_of<T: Drop, F: Fn(&[u8]) -> Option<T>>(
     Ok(values)
 }
 
-// What an operation does, by its letter and the bytes after its `=`, if it has one.
+// What an operation does, by its letter and the bytes after its `=`, if it has one. The other program reads the same letters: a function
+// for both would take a number, and each would still turn the bytes into one first.
 fn action(letter: u8, word: Option<&[u8]>) -> Option<Action>
     ensures value { result ≡ action_of letter (option_map (λ x. x.now) word.entry) }
 {
@@ -103,13 +104,11 @@ fn lettered(letter: u8, rest: &[u8], granules: u32) -> Option<Operation>
 fn operation(entry: &[u8], granules: u32) -> Option<Operation>
     ensures value { result ≡ operation_in granules entry.now }
 {
-    match entry {
-        [] => None,
-        [letter, rest @ ..] => lettered(*letter, rest, granules),
-    }
+    let (letter, rest) = entry.split_first()?;
+    lettered(*letter, rest, granules)
 }
 
-// The four lines, and what follows them. What does is a bad entry 1 of line 5.
+// The four lines. Anything after them is a bad entry 1 of line 5.
 fn read_lines(
     heap: Global,
     first: Line<'_>,

@@ -18,9 +18,9 @@ use std::fmt::Write;
 // What came of a text that was run.
 #[derive(Drop)]
 pub struct Report {
-    // to each operation
+    // the answer to each operation
     pub answers: Vec<Outcome>,
-    // those that are left
+    // the words that are left
     pub words: Vec<u32>,
 }
 

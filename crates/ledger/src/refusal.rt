@@ -22,7 +22,7 @@ pub enum Refusal {
 }
 
 impl Refusal {
-    // The number by which callers know the refusal.
+    // The number by which callers know the refusal. Not by discriminants, since a table's fault brings its own.
     pub fn number(self) -> u8
         ensures value { result ≡ number self }
     {

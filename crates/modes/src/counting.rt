@@ -76,7 +76,7 @@ impl ModeSystem for Counting {
 
     ghost lawful = { Laws.lawful counting refl };
 
-    // Both systems look their tables up in these two lines: one function over a table of any size wants a proof file for
+    // Both systems look their tables up alike, here and in `stands`: one function over a table of any size wants a proof file for
     // each table, and an error in an entry would then show there and not at the entry.
     fn join(&self, a: u8, b: u8) -> u8 {
         joins(a)[b.min(X) as usize]

@@ -1,4 +1,5 @@
-// One operation carried out over a shelf. A place that the shelf does not have reads as 0 and takes no word.
+// One operation carried out over a shelf. A place that the shelf does not have reads as 0 and takes no word. Tree and shelf are
+// two parameters: some functions only read the shelf, others change it, and callers keep the two apart.
 ghost use Rattle.std.specs.Prelude.{◌≡◌, ◌≤◌, slice_index};
 ghost use Rattle.granules.specs.Paths.{records_beneath};
 ghost use Rattle.granules.specs.Trees.{table};

@@ -9,6 +9,7 @@ use crate::interface::Shelf;
 pub fn lay<S: Shelf>(shelf: &mut S, words: &[u32])
     ensures after { S.Shelf.words shelf.new ≡ over words.now (S.Shelf.words shelf.old) }
 {
+    // By number, since that is the place that is put.
     for (place, word) in words.iter().enumerate() {
         let _ = shelf.put(place, *word);
     }

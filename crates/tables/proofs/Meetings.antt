@@ -1,5 +1,6 @@
 -- Who is in the way of a job that asks for a lock, and how far the wounding of the younger ones has come.
-use Rattle.std.proofs.Common.{◌≡◌, ℕ, suc, ◌<◌, ◌≤◌, Bool, true, false, cond, not, ◌&&◌, eqb, List, [], length, get_or, refl, ap, ◌∙◌, inl, inr, arith}
+use Rattle.std.proofs.Common.{◌≡◌, ℕ, suc, ◌<◌, ◌≤◌, Bool, true, false, cond, not, ◌&&◌, eqb, List, [], ◌||◌, ◌+◌, zero, length, get_or, refl, sym, ap, ◌∙◌, inl, inr, arith}
+use Rattle.std.specs.List.{list_any, range_with_len}
 use Rattle.std.proofs.lemmas.List.{get_or_past}
 use Rattle.std.proofs.lemmas.Bool.{cases_eq, cases_lt, cases_Bool, both_ways, and_parts, and_from, not-true, not_from_false, cond-true, cond-false, eq-eqb, ne_eqb}
 use Rattle.modes.specs.Systems.{System, Lawful}
@@ -30,6 +31,25 @@ far_end opened job e = cond-true (eqb job 0) (suc opened) job (eq-eqb job 0 e)
 
 far_at : (opened job : ℕ) → (job ≡ 0 → ⊥) → far opened job ≡ job
 far_at opened job e = cond-false (eqb job 0) (suc opened) job (ne_eqb job 0 e)
+
+or_false : (p : Bool) → (p || false) ≡ p
+or_false true = refl
+or_false false = refl
+
+or_next : (p q r : Bool) → (p || (q || r)) ≡ ((p || q) || r)
+or_next true q r = refl
+or_next false q r = refl
+
+-- a test of the numbers from a on, and of those before a
+any_from : (a n : ℕ) (f : ℕ → Bool) → (some_below a f || list_any f (range_with_len a n)) ≡ some_below (a + n) f
+any_from a zero f = let e : a ≡ a + 0 = omega arith in or_false (some_below a f) ∙ ap (λ (m : ℕ). some_below m f) e
+any_from a (suc n) f =
+    let more : a + 1 ≡ suc a = omega arith in
+    let e : suc a + n ≡ a + suc n = omega arith in
+    ap (λ (m : ℕ). some_below a f || (f a || list_any f (range_with_len m n))) more
+    ∙ or_next (some_below a f) (f a) (list_any f (range_with_len (suc a) n))
+    ∙ any_from (suc a) n f
+    ∙ ap (λ (m : ℕ). some_below m f) e
 
 module _ (s : System) (law : Lawful s) {M S : Type 0} (words : S → List ℕ) (c : Core M S) (a x t : ℕ) where
   -- whether a job gives way
@@ -158,7 +178,7 @@ module _ (s : System) (law : Lawful s) {M S : Type 0} (words : S → List ℕ) (
   at_slot i = holds_up_at s c.seats c.held a x t i
 
   -- a slot that holds up has a job that does
-  pub held_up : (i : ℕ) → i < 16 → at_slot i ≡ true → some_below a older ≡ true
+  held_up : (i : ℕ) → i < 16 → at_slot i ≡ true → some_below a older ≡ true
   held_up i l e =
       let numbers = (numbers_of c.seats) in
       let k = get_or numbers i 0 in
@@ -169,7 +189,7 @@ module _ (s : System) (law : Lawful s) {M S : Type 0} (words : S → List ℕ) (
       some_from a older k (blocks_old s law (jobs_of c.seats c.held) a x t k up).0 up
 
   -- and the other way round
-  pub not_held_up : some_below 16 at_slot ≡ false → some_below a older ≡ false
+  not_held_up : some_below 16 at_slot ≡ false → some_below a older ≡ false
   not_held_up none =
       elim (cases_Bool (some_below a older)) [
         | inr e ↦ e
@@ -185,6 +205,17 @@ module _ (s : System) (law : Lawful s) {M S : Type 0} (words : S → List ℕ) (
             ∙ and_from (not (eqb k 0)) (older k) (not_from_false (eqb k 0) (ne_eqb k 0 number.1)) found.2
             in
             absurd (both_ways (some_below 16 at_slot) none (some_from 16 at_slot (slot numbers k) (omega (arith, l, (numbers_full c.seats))) here))
+      ]
+
+  -- the slots, asked in turn, say whether an older job is in the way
+  pub asked : list_any at_slot (range_with_len 0 16) ≡ some_below a older
+  asked =
+      any_from 0 16 at_slot
+      ∙ elim (cases_Bool (some_below 16 at_slot)) [
+        | inr e ↦ e ∙ sym (not_held_up e)
+        | inl e ↦
+            let found = some_at 16 at_slot e in
+            e ∙ sym (held_up found.0 found.1 found.2)
       ]
 
   -- where everybody stands with the target nobody is in the way

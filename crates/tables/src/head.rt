@@ -14,8 +14,7 @@ pub struct Row {
 // A row with its counts added up. There is no head whose counts and sum disagree.
 #[derive(Clone, Copy)]
 pub struct Head {
-    counts: [u8; 16],
+    row: Row,
     holders: u32,
-    group: u8,
-    ghost summed: { holders ≡ sum counts },
+    ghost summed: { holders ≡ sum row.counts },
 }

@@ -41,19 +41,17 @@ fn play<M: ModeSystem + Drop, S: Shelf + Drop>(
     setting: &Setting,
     calls: Line<'_>,
 ) -> Result<String> {
-    let parents = setting.parents.as_slice();
-    let words = setting.words.as_slice();
     let mut out = String::new(heap);
-    let laid = engine.serve(Call::Lay(parents, words));
+    let laid = engine.serve(setting.lay());
     write!(out, "{} ", Shown(laid))?;
     for entry in calls.take(MOST) {
-        let call = call(entry, parents, words).context("no such call")?;
+        let call = call(entry, setting).context("no such call")?;
         write!(out, "{} ", Shown(engine.serve(call)))?;
     }
     out.push_str("end")?;
-    if let Answer::Told(_) = laid {
+    if matches!(laid, Answer::Told(_)) {
         let shelf = engine.shelf();
-        for word in (0..parents.len()).map_while(|place| shelf.get(place)) {
+        for word in (0..setting.parents.len()).map_while(|place| shelf.get(place)) {
             write!(out, " {word}")?;
         }
     }
@@ -65,6 +63,7 @@ fn play<M: ModeSystem + Drop, S: Shelf + Drop>(
 fn on_shelf<S: Shelf + Drop>(heap: Global, text: &[u8], shelf: S) -> Result<String> {
     let mut line = Lines::new(text).next_line();
     let setting = read_setting(heap, &mut line)?;
+    // A `match`, since the system is the type that an engine is over.
     match setting.modes {
         Modes::Gray => play(heap, Engine::new(Gray, shelf), &setting, line),
         Modes::Counting => play(heap, Engine::new(Counting, shelf), &setting, line),

@@ -21,12 +21,19 @@ pub struct Setting {
     pub words: Vec<u32>,
 }
 
-// The next entries of a line, as numbers.
+impl Setting {
+    // The call that lays an engine out so.
+    pub fn lay(&self) -> Call<'_> {
+        Call::Lay(self.parents.as_slice(), self.words.as_slice())
+    }
+}
+
+// The next entries of a line, as numbers. No `collect`: an entry that is no number ends it, and so does want of memory.
 fn numbers(heap: Global, line: &mut Line<'_>, count: u32) -> Result<Vec<u32>> {
     let mut values = Vec::new(heap);
     for _ in 0..count {
         let value = line.next().and_then(number).context("no such story")?;
-        values.push(value)?;
+        values.push(value).map_err(|_| anyhow!("no memory"))?;
     }
     Ok(values)
 }
@@ -48,8 +55,8 @@ pub fn read_setting(heap: Global, line: &mut Line<'_>) -> Result<Setting> {
     })
 }
 
-// The operation of a job: the rest of an entry after its letter. The other program reads the same letters, in a text of its own; one
-// function for both would have to lie in a crate that reads no text.
+// The operation of a job: the rest of an entry after its letter. The other program reads the same letters: a function for both would take
+// a number, and each would still turn the bytes into one first.
 fn operation(letter: u8, rest: &[u8]) -> Option<(u32, Operation)> {
     let (place, word) = cut_at(rest, b'=');
     let (job, granule) = cut_at(place, b'.');
@@ -66,9 +73,9 @@ fn operation(letter: u8, rest: &[u8]) -> Option<(u32, Operation)> {
 }
 
 // The call that an entry stands for.
-pub fn call<'a>(entry: &[u8], parents: &'a [u32], words: &'a [u32]) -> Option<Call<'a>> {
+pub fn call<'a>(entry: &[u8], setting: &'a Setting) -> Option<Call<'a>> {
     match entry {
-        [b'l'] => Some(Call::Lay(parents, words)),
+        [b'l'] => Some(setting.lay()),
         [b'o'] => Some(Call::Open),
         [b'?', granule @ ..] => Some(Call::Look(number(granule)?)),
         [b'g', job @ ..] => Some(Call::Go(number(job)?)),

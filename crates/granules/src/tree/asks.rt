@@ -1,10 +1,19 @@
 // Questions to a tree. A granule that the tree does not have counts as a child of the root, and is no record.
 ghost use Rattle.std.specs.Prelude.{◌≡◌, ℕ, ◌<◌, ◌≤◌, true, [], ◌∷◌, length, MatchOption, if◌then◌else◌, nat_lt};
 ghost use Rattle.granules.specs.Paths.{parent, path, beneath, is_record, record_beneath, records_beneath};
-ghost use Rattle.granules.specs.Trees.{table, steps, span};
+ghost use Rattle.granules.specs.Trees.{ahead, table, steps, span};
 
+use super::records::Records;
 use super::{Node, Tree};
 use crate::path::Path;
+
+// How many records are still to come.
+fn counted(records: Records<'_>) -> usize
+    requires { length (ahead records) ≤ 256 }
+    ensures { result ≡ length (ahead records.entry) }
+{
+    records.count()
+}
 
 impl Tree {
     // How many granules there are.
@@ -88,6 +97,6 @@ impl Tree {
         ensures some { granule < length (table self.now) → 0 < result }
         ensures bound { result ≤ 256 }
     {
-        self.records(granule).count()
+        counted(self.records(granule))
     }
 }

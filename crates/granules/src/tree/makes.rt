@@ -28,7 +28,8 @@ fn is_rooted(parents: &[u32]) -> bool
     parents.iter().enumerate().all(|(g, p)| is_right(g, *p))
 }
 
-// How many granules the path of one has.
+// How many granules the path of one has. That a table is rooted is asked for here and below, and is no invariant: the table
+// is the caller's, and looked at only while it is checked.
 #[tactic(auto, using(crate::proofs::Climbs::depths))]
 fn depth(parents: &[u32], granule: usize) -> usize
     requires rooted { rooted parents.now ≡ true }
@@ -50,7 +51,7 @@ fn is_shallow(parents: &[u32]) -> bool
     (0..parents.len()).all(|g| depth(parents, g) <= 8)
 }
 
-// The table as a tree keeps it, and which granules are nobody's parent: no parent is beyond 255.
+// What a tree keeps of a table: each granule's parent, which is never beyond 255, and whether it is nobody's parent.
 fn kept(parents: &[u32]) -> [Node; 256]
     requires rooted { rooted parents.now ≡ true }
     requires few { length parents.now ≤ 256 }
@@ -62,6 +63,7 @@ fn kept(parents: &[u32]) -> [Node; 256]
         parent: 0,
         leaf: true,
     }; 256];
+    // By number: a `zip` with `iter_mut` would leave an invariant about cells that are lent.
     for (g, p) in parents.iter().enumerate() {
         nodes[g].parent = *p as u8;
     }

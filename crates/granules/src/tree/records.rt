@@ -1,7 +1,8 @@
 // The records beneath a granule, one after the other.
-ghost use Rattle.std.specs.Prelude.{◌≡◌};
+ghost use Rattle.std.specs.Prelude.{◌≡◌, ◌-◌};
+ghost use Rattle.std.specs.List.{filter, range_with_len};
 ghost use Rattle.std.specs.Iterator.{YieldsFirst, item_count};
-ghost use Rattle.granules.specs.Paths.{records};
+ghost use Rattle.granules.specs.Paths.{record_beneath, records};
 ghost use Rattle.granules.specs.Trees.{table, ahead};
 
 use super::Tree;
@@ -15,17 +16,24 @@ pub struct Records<'a> {
     rest: Range<usize>,
 }
 
+// The records beneath a granule among the numbers from `first` up to `end`, which is not among them.
+fn among(tree: &Tree, above: usize, first: usize, end: usize) -> Records<'_>
+    ensures { ahead result ≡ filter (record_beneath (table tree.now) above) (range_with_len first (end - first)) }
+{
+    Records {
+        tree,
+        above,
+        rest: first..end,
+    }
+}
+
 impl Tree {
     // The records beneath a granule. It looks at no granule outside its span.
     pub fn records(&self, granule: usize) -> Records<'_>
         ensures value { ahead result ≡ records (table self.now) granule }
     {
         let (first, end) = self.span(granule);
-        Records {
-            tree: self,
-            above: granule,
-            rest: first..end,
-        }
+        among(self, granule, first, end)
     }
 }
 

@@ -12,14 +12,13 @@ fn added(counts: &[u8]) -> u32
 }
 
 impl From<Row> for Head {
-    ghost from_gives = { λ row head. (head.counts ≡ row.counts) × (head.group ≡ row.group) };
+    ghost from_gives = { λ row head. head.row ≡ row };
 
     // The row with its counts added up.
     fn from(row: Row) -> Head {
         Head {
-            counts: row.counts,
+            row,
             holders: added(&row.counts),
-            group: row.group,
         }
     }
 }
@@ -27,14 +26,14 @@ impl From<Row> for Head {
 impl Head {
     // The join of all modes held.
     pub fn group(&self) -> u8
-        ensures value { result ≡ self.now.group }
+        ensures value { result ≡ self.now.row.group }
     {
-        self.group
+        self.row.group
     }
 
     // How many hold a mode.
     pub fn holders(&self) -> u32
-        ensures value { result ≡ sum self.now.counts }
+        ensures value { result ≡ sum self.now.row.counts }
     {
         self.holders
     }

@@ -44,6 +44,7 @@ impl Held {
     pub(crate) fn wipe(&mut self, seat: Seat)
         ensures rows { self.new.modes.rows ≡ slice_set self.old.modes.rows seat.slot (replicate 256 0) }
     {
+        // By number, which is all that a granule's cell and its counts have in common.
         for granule in 0..=u8::MAX {
             self.release(seat, granule);
         }

@@ -7,7 +7,7 @@ use crate::head::Row;
 use modes::system::ModeSystem;
 
 // The counts where one holder goes from a mode to another. A mode is a code, as it is to callers; that it is below 16 comes
-// from a system's laws or from the counts, and only this, a put and a raise ask for it.
+// from a system's laws or from the counts, and few ask for it.
 pub(super) fn moved(mut counts: [u8; 16], from: u8, to: u8) -> [u8; 16]
     requires from { from < 16 }
     requires to { to < 16 }
@@ -41,6 +41,7 @@ impl Held {
     {
         let counts = self.counts[granule as usize];
         let mut group = 0;
+        // A loop knows that each place is below 16; of a `fold`'s closure that would have to be shown apart.
         for (mode, count) in counts.iter().enumerate() {
             group = system.join(group, if_held(*count, mode));
         }

@@ -55,13 +55,7 @@ impl<M: ModeSystem, S: Shelf> Core<M, S> {
     fn is_held_up(&self, claim: Claim) -> bool
         ensures value { result ≡ some_below claim.asker (blocks M.ModeSystem.meaning (jobs_of self.now.seats self.now.held) claim.asker claim.granule claim.target) }
     {
-        // No `any`: its closure does not know that what the range gives is one of the 16.
-        for slot in 0..16 {
-            if self.holds_up(claim, Seat { slot }) {
-                return true;
-            }
-        }
-        false
+        (0..16).any(|slot| self.holds_up(claim, Seat::at(slot)))
     }
 
     // Makes way for a claim: whoever is younger and in the way is wounded. Whether an older one is in the way.

@@ -25,6 +25,7 @@ impl<M, S: Shelf> Core<M, S> {
         ensures noted { self.new.noted ≡ self.old.noted }
     {
         let note = self.noted.get(seat, place);
+        // No `==`: that two notes are equal does not show that they are one.
         if let Note::Nothing = note {
             return;
         }
@@ -42,6 +43,7 @@ impl<M, S: Shelf> Core<M, S> {
         ensures held { self.new.held ≡ self.old.held }
         ensures noted { self.new.noted ≡ self.old.noted }
     {
+        // By number, which is all that a note and a place of the shelf have in common.
         for place in 0..=u8::MAX {
             self.take_back_at(seat, place);
         }

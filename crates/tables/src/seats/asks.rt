@@ -44,7 +44,7 @@ impl Seats {
         ensures value { option_map (λ s. s.slot) result ≡ position (has number) self.now.slots }
     {
         let slot = self.place(number)?;
-        Some(Seat { slot })
+        Some(Seat::at(slot))
     }
 
     // The first free slot.
@@ -68,10 +68,7 @@ impl Seats {
         requires { slot (numbers_of self.now) job < 16 }
         ensures value { result.slot ≡ slot (numbers_of self.now) job }
     {
-        match self.seat_of(job) {
-            Some(seat) => seat,
-            None => unreachable(),
-        }
+        self.seat_of(job).unwrap()
     }
 
     // The number of the job in a slot.

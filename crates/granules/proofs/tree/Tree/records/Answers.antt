@@ -1,4 +1,4 @@
-use Rattle.std.proofs.Common.{length}
+use Rattle.std.proofs.Common.{length, ◌∙◌}
 use Rattle.granules.specs.Paths.{record_beneath}
 use Rattle.granules.specs.Trees.{table}
 use Rattle.granules.proofs.Counts.{kept_within}
@@ -10,6 +10,7 @@ returns c =
     let s = c.span-first.result in
     record {
       value =
-          kept_within s.0 s.1 (length ps) (record_beneath ps c.args.granule)
+          c.among.ensures
+          ∙ kept_within s.0 s.1 (length ps) (record_beneath ps c.args.granule)
           c.span-first.ensures.all c.span-first.ensures.bound;
     }

@@ -1,4 +1,5 @@
 use Rattle.std.proofs.Common.{sum, ap, ◌∙◌, arith}
+use Rattle.tables.specs.declared.head.Row.{Row}
 use Rattle.tables.proofs.Heads.{group_agrees, holders_agree}
 use Rattle.tables.proofs.kernel.Core.head.Goals as goal
 
@@ -8,11 +9,11 @@ returns g c =
     record {
       group =
           c.group.ensures.value
-          ∙ c.from-head.ensures.1
+          ∙ ap (λ (r : Row). r.group) c.from-head.ensures
           ∙ c.row.ensures.group
           ∙ group_agrees t c.args.granule (omega (arith, c.ranges.granule.fits)) g.M.ModeSystem.meaning g.met.M.ModeSystem.lawful;
       holders =
           c.holders.ensures.value
-          ∙ ap sum (c.from-head.ensures.0 ∙ c.row.ensures.counts)
+          ∙ ap sum (ap (λ (r : Row). r.counts) c.from-head.ensures ∙ c.row.ensures.counts)
           ∙ holders_agree t c.args.granule (omega (arith, c.ranges.granule.fits));
     }

@@ -1,27 +1,19 @@
-use Rattle.std.proofs.Common.{◌≡◌, ℕ, Bool, sym, ap, ◌∙◌, arith}
-use Rattle.granules.specs.Below.{some_below}
+use Rattle.std.proofs.Common.{refl, ◌∙◌, arith, rules, tests}
+use Rattle.std.proofs.lemmas.Iterator.{YieldsList-from_range}
+use Rattle.std.proofs.lemmas.Iterator.Search.{any_from_yields_List}
 use Rattle.tables.specs.Meetings.{holds_up_at}
-use Rattle.tables.proofs.Meetings.{held_up, not_held_up}
+use Rattle.tables.proofs.Meetings.{asked}
 use Rattle.tables.proofs.kernel.Core.is_held_up.Goals as goal
-
-pub returns-then-holds_up : goal.returns-then-holds_up
-returns-then-holds_up g c =
-    record {
-      value =
-          sym
-          (held_up g.M.ModeSystem.meaning g.met.M.ModeSystem.lawful g.S.Shelf.words c.args.self.now c.args.claim.asker c.args.claim.granule c.args.claim.target
-          c.loop-slot.slot (omega arith) (sym c.if-holds_up.ensures.value));
-    }
 
 pub returns : goal.returns
 returns g c =
-    let last : c.loop-slot.slot ≡ 16 = omega arith in
-    let here : ℕ → Bool =
-    holds_up_at g.M.ModeSystem.meaning c.args.self.now.seats c.args.self.now.held c.args.claim.asker c.args.claim.granule c.args.claim.target
-    in
+    let s = g.M.ModeSystem.meaning in
+    let core = c.args.self.now in
+    let claim = c.args.claim in
+    let test = holds_up_at s core.seats core.held claim.asker claim.granule claim.target in
     record {
       value =
-          sym
-          (not_held_up g.M.ModeSystem.meaning g.met.M.ModeSystem.lawful g.S.Shelf.words c.args.self.now c.args.claim.asker c.args.claim.granule c.args.claim.target
-          (ap (λ (n : ℕ). some_below n here) (sym last) ∙ c.loop-slot.invariant));
+          any_from_yields_List test _ _ c.any.result c.any.ensures.ran (YieldsList-from_range 0 16 16 refl (omega arith))
+          (λ x b q k. search (rules, tests))
+          ∙ asked s g.met.M.ModeSystem.lawful g.S.Shelf.words core claim.asker claim.granule claim.target;
     }
