@@ -1,9 +1,9 @@
 -- The entries of a line, read one after the other.
-use Rattle.std.proofs.Common.{◌≡◌, ℕ, suc, ◌+◌, ◌-◌, ◌<◌, Bool, true, false, List, [], ◌∷◌, ◌++◌, length, get_or, take, drop, IsErrAnd, Some, None, Ok, Err, Option, Result, sym, refl, ap, ◌∙◌, subst, add-one, arith}
-use Rattle.std.proofs.lemmas.List.{append_assoc, append-nil, take_all}
+use Rattle.std.proofs.Common.{◌≡◌, ℕ, suc, ◌+◌, ◌-◌, ◌<◌, Bool, true, false, List, [], ◌∷◌, ◌++◌, IsErrAnd, Some, None, Ok, Err, Option, Result, sym, refl, ap, ◌∙◌, subst, add-one, arith}
+use Rattle.std.proofs.lemmas.List.{append_assoc, append-nil}
 use Rattle.entries.specs.Cuts.{Remains, entries_after}
 use Rattle.alone.specs.declared.denied.Denied.{Denied}
-use Rattle.alone.specs.Inputs.{ReadAs, Reading, good, bad, and_then, closed, spent, next, all_of, lettered, operation_in}
+use Rattle.alone.specs.Inputs.{ReadAs, Reading, good, bad, and_then, closed, spent, next, all_of}
 
 -- what follows, after the values xs
 abbrev onto : {A : Type 0} → List A → Reading (List A) → Reading (List A)
@@ -97,9 +97,3 @@ pub passed :
     → ReadAs view defined (Err d) → ReadAs view defined r
 passed view defined d (Ok x) h p = absurd h
 passed view defined d (Err e) h p = subst (λ (x : Denied). ReadAs view defined (Err x)) (sym h) p
-
--- an operation begins with its letter
-pub operation_from :
-    (granules : ℕ) (xs : List ℕ) → lettered granules (get_or xs 0 0) (take (length xs - 1) (drop 1 xs)) ≡ operation_in granules xs
-operation_from granules [] = refl
-operation_from granules (x ∷ xs) = ap (lettered granules x) (take_all (suc (length xs) - 1) xs (omega arith))
