@@ -162,15 +162,7 @@ next_nearest n (x ∷ xs) =
 -- a number that is found is above n
 pub next_some : (n : ℕ) (xs : List ℕ) (k : ℕ) → reduce min (filter (ltb n) xs) ≡ Some k → n < k
 next_some n [] k e = absurd (none-some k e)
-next_some n (x ∷ xs) k e =
-    elim (cases_lt n x) [
-      | inl m ↦
-          let is = ap (reduce min) (cond-true (ltb n x) (x ∷ filter (ltb n) xs) (filter (ltb n) xs) (lt-ltb n x m)) in
-          subst (λ (r : ℕ). n < r) (cond_some true (fold min x (filter (ltb n) xs)) k (sym is ∙ e)).1 (better n x xs m).above
-      | inr m ↦
-          let is = ap (reduce min) (cond-false (ltb n x) (x ∷ filter (ltb n) xs) (filter (ltb n) xs) (le-ltb n x m)) in
-          next_some n xs k (sym is ∙ e)
-    ]
+next_some n (x ∷ xs) k e = grind (arith, nat_tests, λ (m : n < x). (better n x xs m).above, next_some n xs k)
 
 -- a number that stands in a list has a place there, and the other way round
 pub among_place : (xs : List ℕ) (k : ℕ) → among k xs ≡ true → place xs k < length xs

@@ -1,4 +1,5 @@
 -- What a change in one slot is to the job that sits there.
+use Rattle.std.proofs.lemmas.Bool.Decides.{nat_tests}
 use Rattle.std.proofs.Common.{◌≡◌, ℕ, ◌<◌, ◌≤◌, true, false, eqb, List, [], length, get_or, set, replicate, sym, ap, ◌∙◌, inl, inr, arith}
 use mathlib.Core.Path.{fun_ext}
 use Rattle.std.proofs.lemmas.List.{get_or-set_same, get_or-set_other}
@@ -23,20 +24,11 @@ slot_some numbers k e = let t = ne_eqb k 0 e in rw (t, slot)
 
 -- a slot of the table has its job's number, which is not 0
 pub slot_number : (numbers : List ℕ) (k : ℕ) → slot numbers k < length numbers → (get_or numbers (slot numbers k) 0 ≡ k) × (k ≡ 0 → ⊥)
-slot_number numbers k l =
-    elim (cases_eq k 0) [
-      | inl e ↦ absurd (omega (arith, slot_none numbers k e))
-      | inr e ↦ (
-        ap (λ (i : ℕ). get_or numbers i 0) (slot_some numbers k e) ∙ place_at numbers k (omega (arith, slot_some numbers k e)),
-        e,
-      )
-    ]
+slot_number numbers k l = (grind (arith, nat_tests, place_at numbers k), λ e. grind (arith, nat_tests))
 
 -- who has a slot of the table stands in it, and the other way round
 pub slot_among : (numbers : List ℕ) (k : ℕ) → slot numbers k < length numbers → among k numbers ≡ true
-slot_among numbers k l =
-    let some = (slot_number numbers k l).1 in
-    place_among numbers k (omega (arith, slot_some numbers k some))
+slot_among numbers k l = grind (arith, nat_tests, place_among numbers k)
 
 pub among_slot : (numbers : List ℕ) (k : ℕ) → (k ≡ 0 → ⊥) → among k numbers ≡ true → slot numbers k < length numbers
 among_slot numbers k some e = omega (arith, slot_some numbers k some, among_place numbers k e)
@@ -55,11 +47,7 @@ slot_own numbers j k e l =
 
 -- whoever sits in a slot was given its number
 pub seated_given : (seats : Seats) (k : ℕ) → among k (numbers_of seats) ≡ true → k ≤ seats.opened
-seated_given seats k e =
-    elim (cases_lt seats.opened k) [
-      | inl l ↦ absurd (both_ways (among k (numbers_of seats)) (new_among seats.opened (numbers_of seats) k l seats.known) e)
-      | inr l ↦ l
-    ]
+seated_given seats k e = grind (arith, nat_tests, new_among seats.opened (numbers_of seats) k, seats.known)
 
 -- whoever sits in a slot has not ended
 pub seated_lives : (seats : Seats) (k : ℕ) → slot (numbers_of seats) k < 16 → is_ended (get_or (states_of seats) (slot (numbers_of seats) k) Ended) ≡ false
@@ -80,15 +68,13 @@ pub view_set :
     {A : Type 0} (rows : List A) (d : A) (numbers : List ℕ) (k : ℕ) (v : A) → length rows ≡ length numbers → slot numbers k < length numbers
     → (j : ℕ) → get_or (set rows (slot numbers k) v) (slot numbers j) d ≡ put k v (λ i. get_or rows (slot numbers i) d) j
 view_set rows d numbers k v e l j =
-    elim (cases_eq j k) [
-      | inl s ↦
-          ap (λ (i : ℕ). get_or (set rows (slot numbers k) v) (slot numbers i) d) s
-          ∙ get_or-set_same rows (slot numbers k) v d (omega arith)
-          ∙ sym (put_at k v (λ i. get_or rows (slot numbers i) d) j s)
-      | inr s ↦
-          get_or-set_other rows (slot numbers k) (slot numbers j) v d (λ (z : slot numbers j ≡ slot numbers k). s (slot_own numbers j k z l))
-          ∙ sym (put_other k v (λ i. get_or rows (slot numbers i) d) j s)
-    ]
+    grind (
+      arith,
+      nat_tests,
+      get_or-set_same rows (slot numbers k) v d,
+      get_or-set_other rows (slot numbers k) (slot numbers j) v d,
+      slot_own numbers j k,
+    )
 
 -- The same, cell by cell.
 pub view_row :
@@ -100,15 +86,7 @@ view_row {A} rows d numbers k row e l j x = ap (λ (r : List A). get_or r x d) (
     own i = get_or rows (slot numbers i) []
 
     at_row : get_or (put k row own j) x d ≡ put {A = ℕ → A} k (λ y. get_or row y d) (λ i y. get_or (own i) y d) j x
-    at_row =
-        elim (cases_eq j k) [
-          | inl s ↦
-              ap (λ (r : List A). get_or r x d) (put_at k row own j s)
-              ∙ sym (ap (λ (f : ℕ → A). f x) (put_at {A = ℕ → A} k (λ y. get_or row y d) (λ i y. get_or (own i) y d) j s))
-          | inr s ↦
-              ap (λ (r : List A). get_or r x d) (put_other k row own j s)
-              ∙ sym (ap (λ (f : ℕ → A). f x) (put_other {A = ℕ → A} k (λ y. get_or row y d) (λ i y. get_or (own i) y d) j s))
-        ]
+    at_row = grind (arith, nat_tests)
 
 -- An empty row written at the slot of job k leaves job k empty, and nobody else changed.
 pub view_wiped :
@@ -135,8 +113,4 @@ view_cell {A} rows d numbers k x v e l h j y =
     row = get_or rows (slot numbers k) []
 
     written : (z : ℕ) → get_or (set row x v) z d ≡ put x v (λ z. get_or row z d) z
-    written z =
-        elim (cases_eq z x) [
-          | inl s ↦ ap (λ (i : ℕ). get_or (set row x v) i d) s ∙ get_or-set_same row x v d h ∙ sym (put_at x v (λ z. get_or row z d) z s)
-          | inr s ↦ get_or-set_other row x z v d s ∙ sym (put_other x v (λ z. get_or row z d) z s)
-        ]
+    written z = grind (arith, nat_tests, get_or-set_same row x v d, get_or-set_other row x z v d)

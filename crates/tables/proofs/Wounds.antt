@@ -1,4 +1,5 @@
 -- Jobs wounded one after the other, the oldest first, are wounded as the model has it.
+use Rattle.std.proofs.lemmas.Bool.Decides.{nat_tests}
 use Rattle.std.proofs.Common.{◌≡◌, ℕ, zero, suc, ◌<◌, ◌≤◌, Bool, true, false, ◌&&◌, eqb, ltb, List, length, get_or, set, replicate, sym, refl, ap, ◌∙◌, subst, ap₂, inl, inr, arith}
 use mathlib.Core.Path.{fun_ext}
 use Rattle.std.proofs.lemmas.Bool.{cases_eq, cases_lt, cases_Bool, and_from, and_left, and_right, lt-ltb, le-ltb, eq-eqb, ne_eqb}
@@ -69,34 +70,20 @@ wounded_upto p n m =
 
 module _ (p : ℕ → Bool) where
   pub upto_here : (n : ℕ) → upto p n n ≡ false
-  upto_here n = and_right (p n) (ltb n n) (le-ltb n n (omega arith))
+  upto_here n = grind (arith, nat_tests)
 
   -- where the test picks nobody one may go on
   upto_skip : (n m : ℕ) → n ≤ m → ((k : ℕ) → n ≤ k → k < m → p k ≡ false) → (k : ℕ) → upto p n k ≡ upto p m k
-  upto_skip n m l h k =
-      elim (cases_lt k n) [
-        | inl a ↦ ap (λ (b : Bool). p k && b) (lt-ltb k n a ∙ sym (lt-ltb k m (omega arith)))
-        | inr a ↦
-            elim (cases_lt k m) [
-              | inl b ↦ and_left (p k) (ltb k n) (h k a b) ∙ sym (and_left (p k) (ltb k m) (h k a b))
-              | inr b ↦ ap (λ (c : Bool). p k && c) (le-ltb k n a ∙ sym (le-ltb k m b))
-            ]
-      ]
+  upto_skip n m l h k = grind (arith, nat_tests, h k)
 
   back_skip :
       (notes : ℕ → ℕ → Note) (ws : List ℕ) (n m : ℕ) → n ≤ m → ((k : ℕ) → n ≤ k → k < m → p k ≡ false)
       → all_taken_back p notes n ws ≡ all_taken_back p notes m ws
-  back_skip notes ws n zero l h = ap (λ (x : ℕ). all_taken_back p notes x ws) (zero_is l)
-    where
-      zero_is : n ≤ 0 → n ≡ 0
-      zero_is l = omega arith
+  back_skip notes ws n zero l h = grind arith
   back_skip notes ws n (suc m) l h =
       elim (cases_eq n (suc m)) [
-        | inl e ↦ ap (λ (x : ℕ). all_taken_back p notes x ws) e
-        | inr e ↦
-            let q = h m (omega arith) (omega arith) in
-            let step : all_taken_back p notes (suc m) ws ≡ all_taken_back p notes m ws = rw (q, all_taken_back) in
-            back_skip notes ws n m (omega arith) (λ k a b. h k a (omega arith)) ∙ sym step
+        | inl e ↦ cc e
+        | inr e ↦ grind (arith, h m (omega arith) (omega arith), back_skip notes ws n m (omega arith) (λ k a b. h k a (omega arith)))
       ]
 
   pub skip : (m : Model) (n n' : ℕ) → n ≤ n' → ((k : ℕ) → n ≤ k → k < n' → p k ≡ false) → wounded_upto p n m ≡ wounded_upto p n' m
@@ -110,12 +97,8 @@ module _ (p : ℕ → Bool) where
   -- nobody wounded yet
   pub start : (m : Model) (n : ℕ) → ((k : ℕ) → k < n → p k ≡ false) → m ≡ wounded_upto p n m
   start m n h =
-      let none : (k : ℕ) → upto p 0 k ≡ false = λ k. and_right (p k) (ltb k 0) (le-ltb k 0 (omega arith)) in
-      model_eq m (wounded_upto p 0 m) refl
-      (λ k. sym (where_false (upto p 0) Wounded m.jobs.status k (none k)))
-      (λ k x. sym (ap (λ (f : ℕ → ℕ). f x) (where_false (upto p 0) (λ _. 0) m.jobs.mode k (none k))))
-      refl
-      (λ k r. sym (ap (λ (f : ℕ → Note). f r) (where_false (upto p 0) (λ _. Nothing) m.notes k (none k))))
+      model_eq m (wounded_upto p 0 m) refl (λ k. grind (arith, nat_tests)) (λ k x. grind (arith, nat_tests)) refl
+      (λ k r. grind (arith, nat_tests))
       ∙ skip m 0 n (omega arith) (λ k a b. h k b)
 
   -- one more
@@ -129,38 +112,14 @@ module _ (p : ℕ → Bool) where
       (λ k r. ap (λ (f : ℕ → Note). f r) (over (λ _. Nothing) m.notes k))
     where
       over : {A : Type 0} (a : A) (f : ℕ → A) (k : ℕ) → where_so (λ j. eqb j n) a (where_so (upto p n) a f) k ≡ where_so (upto p (suc n)) a f k
-      over a f k =
-          elim (cases_eq k n) [
-            | inl e ↦
-                where_true (λ j. eqb j n) a (where_so (upto p n) a f) k (eq-eqb k n e)
-                ∙ sym
-                (where_true (upto p (suc n)) a f k
-                (and_from (p k) (ltb k (suc n)) (subst (λ (x : ℕ). p x ≡ true) (sym e) q) (lt-ltb k (suc n) (omega arith))))
-            | inr e ↦
-                where_false (λ j. eqb j n) a (where_so (upto p n) a f) k (ne_eqb k n e)
-                ∙ where_cong (upto p n) (upto p (suc n)) a f k
-                (ap (λ (b : Bool). p k && b)
-                (elim (cases_lt k n) [
-                  | inl l ↦ lt-ltb k n l ∙ sym (lt-ltb k (suc n) (omega arith))
-                  | inr l ↦ le-ltb k n l ∙ sym (le-ltb k (suc n) (omega arith))
-                ]))
-          ]
+      over a f k = grind (arith, nat_tests, q)
 
   -- all of them
   pub all : (m : Model) (n : ℕ) → suc m.jobs.opened ≤ n → ((k : ℕ) → p k ≡ true → k < suc m.jobs.opened) → wounded_upto p n m ≡ model_hands.wound p m
   all m n l h =
       let last = suc m.jobs.opened in
-      let none : (k : ℕ) → last ≤ k → p k ≡ false =
-      λ k a. elim (cases_Bool (p k)) [ inl t ↦ absurd (omega (arith, h k t)) | inr t ↦ t ]
-      in
-      let same : (k : ℕ) → upto p last k ≡ p k =
-      λ k.
-      elim (cases_Bool (p k)) [
-        | inl t ↦ and_from (p k) (ltb k last) t (lt-ltb k last (h k t)) ∙ sym t
-        | inr t ↦ and_left (p k) (ltb k last) t ∙ sym t
-      ]
-      in
-      sym (skip m last n l (λ k a b. none k a))
+      let same : (k : ℕ) → upto p last k ≡ p k = λ k. grind (arith, nat_tests, h k) in
+      sym (skip m last n l (λ k a b. grind (arith, nat_tests, h k)))
       ∙ model_eq (wounded_upto p last m) (model_hands.wound p m) refl
       (λ k. where_cong (upto p last) p Wounded m.jobs.status k (same k))
       (λ k x. ap (λ (f : ℕ → ℕ). f x) (where_cong (upto p last) p (λ _. 0) m.jobs.mode k (same k)))
