@@ -1,15 +1,13 @@
 -- Jobs that sit down and get up, as the model has it.
 use Rattle.std.proofs.lemmas.Bool.Decides.{nat_tests}
-use Rattle.std.proofs.Common.{◌≡◌, ℕ, suc, ◌+◌, ◌<◌, ◌≤◌, true, false, List, [], length, get_or, set, replicate, sym, refl, ap, ◌∙◌, ap₂, inl, inr, add-one, arith}
+use Rattle.std.proofs.Common.{◌≡◌, ℕ, suc, ◌+◌, ◌<◌, ◌≤◌, true, false, List, [], length, get_or, set, replicate, sym, refl, ap, ◌∙◌, ap₂, add-one, arith}
 use Rattle.std.proofs.lemmas.List.{get_or-set_same, get_or-set_other, get_or_past, length-set}
-use Rattle.std.proofs.lemmas.Bool.{cases_eq, cases_lt, both_ways}
 use Rattle.granules.specs.Paths.{among}
 use Rattle.ledger.specs.declared.job.Note.{Note}
 use Rattle.ledger.specs.declared.job.Note.TheVariants.{Nothing}
 use Rattle.ledger.specs.declared.job.Status.{Status}
 use Rattle.ledger.specs.declared.job.Status.TheVariants.{Working, Ended}
 use Rattle.ledger.specs.Jobs.{put}
-use Rattle.ledger.proofs.Piles.{put_at, put_other}
 use Rattle.tables.specs.declared.kernel.Core.{Core}
 use Rattle.tables.specs.declared.held.Held.{Held}
 use Rattle.tables.specs.declared.grid.Grid.{Grid}
@@ -19,7 +17,7 @@ use Rattle.tables.specs.Grids.{cell, is_nothing}
 use Rattle.tables.specs.Seats.{slot, distinct}
 use Rattle.tables.specs.Views.{whole, numbers_of, states_of}
 use Rattle.tables.proofs.Places.{place_set_other, place_set_new, among_gone, new_among, place_among}
-use Rattle.tables.proofs.Views.{slot_none, slot_some, slot_number, slot_own}
+use Rattle.tables.proofs.Views.{slot_some, slot_number, slot_own}
 use Rattle.tables.proofs.Wounds.{model_eq}
 use Rattle.tables.proofs.Sitting.{numbers_full, states_full}
 
@@ -155,6 +153,4 @@ open_view words c seats' i l vacant n s o =
     ∙ view_still numbers i next within vacant some new c.noted.rows Nothing (c.noted.full ∙ sym full) (λ y. nothing (cell Nothing c.noted.rows i y) (c.unnoted i y vacant)) j r)
   where
     nothing : (m : Note) → is_nothing m ≡ true → m ≡ Nothing
-    nothing Nothing e = refl
-    nothing (Note.Added a) e = absurd (both_ways false refl e)
-    nothing (Note.PutBack a) e = absurd (both_ways false refl e)
+    nothing m e = grind (arith, nat_tests, e)

@@ -1,10 +1,10 @@
 -- Notes of an operation, and what they are to the model.
-use Rattle.std.proofs.Common.{◌≡◌, ℕ, zero, suc, ◌+◌, ◌<◌, ◌≤◌, Bool, true, false, cond, List, [], ◌∷◌, ◌++◌, length, get_or, set, sym, refl, ap, ◌∙◌, subst, inl, inr, arith}
+use Rattle.std.proofs.Common.{◌≡◌, ℕ, zero, suc, ◌+◌, ◌<◌, ◌≤◌, Bool, true, false, cond, List, [], ◌∷◌, length, get_or, set, sym, refl, ap, ◌∙◌, inl, inr, arith}
 use Rattle.std.specs.List.{fold, filter, range_with_len}
 use Rattle.std.proofs.lemmas.List.{append-nil, length-set, get_or-set_same, set-get_or}
 use Rattle.std.proofs.lemmas.List.Sums.{fold_push}
 use mathlib.Core.Path.{fun_ext}
-use Rattle.std.proofs.lemmas.Bool.{and_left, both_ways, cases_Bool, cases_lt, cond-true, cond-false}
+use Rattle.std.proofs.lemmas.Bool.{and_left, both_ways, cases_Bool, cases_lt}
 use Rattle.modes.specs.Systems.{System}
 use Rattle.granules.specs.Paths.{beneath, is_record, record_beneath, records}
 use Rattle.granules.specs.declared.tree.Tree.{Tree}
@@ -111,13 +111,12 @@ module _ (ps : List ℕ) (o : Operation) (ws : List ℕ) (s : ℕ) (start : List
   one_more n rows l t h =
       let v = noted o.action (word_at ws n) (cell Nothing rows s n) in
       let row = get_or rows s [] in
-      let here : cell Nothing rows s n ≡ old n = h.swept n ∙ not_yet Nothing s new old n n (omega arith) in
-      let is : v ≡ new n = ap (noted o.action (word_at ws n)) here ∙ sym (noted_there ps o ws n (old n) t) in
-      let mine : get_or (set rows s (set row n v)) s [] ≡ set row n v = get_or-set_same rows s (set row n v) [] (in_rows n rows h) in
+      let inside = in_rows n rows h in
+      let is : v ≡ new n = grind (arith, h.swept n, not_yet Nothing s new old n n (omega arith), noted_there ps o ws n (old n) t) in
       record {
-        only = only_slot start rows (with_cell rows s n v) s n v (in_rows n rows h) h.only refl;
-        wide = ap length mine ∙ length-set row n v ∙ h.wide;
-        swept = swept_put Nothing s new old rows n v (in_rows n rows h) (omega (arith, h.wide, l)) is h.swept;
+        only = only_slot start rows (with_cell rows s n v) s n v inside h.only refl;
+        wide = grind (arith, get_or-set_same rows s (set row n v) [] inside, length-set row n v, h.wide);
+        swept = swept_put Nothing s new old rows n v inside (omega (arith, h.wide, l)) is h.swept;
       }
 
   upto : (n : ℕ) → n ≤ 256 → Noted n (before n)
@@ -134,22 +133,13 @@ module _ (ps : List ℕ) (o : Operation) (ws : List ℕ) (s : ℕ) (start : List
       let now = ap (noted_on o ws s start) (filter_more n test) in
       elim (cases_Bool (test n)) [
         | inl t ↦
-            let push =
-            now
-            ∙ ap (λ (xs : List ℕ). noted_on o ws s start (filter test (range_with_len 0 n) ++ xs)) (cond-true (test n) (n ∷ []) [] t)
-            ∙ fold_push (note_on o ws s) start (filter test (range_with_len 0 n)) n
-            in
-            subst (λ (m : ℕ). Noted m (before (suc n))) next
-            (subst (Noted (n + 1)) (sym push) (one_more n (before n) (omega (arith, l)) t h))
+            let push = fold_push (note_on o ws s) start (filter test (range_with_len 0 n)) n in
+            let is : before (suc n) ≡ note_on o ws s (before n) n = grind (arith, now, push) in
+            rw (sym next, is) (one_more n (before n) (omega (arith, l)) t h)
         | inr t ↦
-            let same =
-            now
-            ∙ ap (λ (xs : List ℕ). noted_on o ws s start (filter test (range_with_len 0 n) ++ xs)) (cond-false (test n) (n ∷ []) [] t)
-            ∙ ap (noted_on o ws s start) (append-nil (filter test (range_with_len 0 n)))
-            in
-            subst (λ (m : ℕ). Noted m (before (suc n))) next
-            (subst (Noted (n + 1)) (sym same)
-            (record { only = h.only; wide = h.wide; swept = swept_skip Nothing s new old (before n) n (noted_else ps o ws n (old n) t) h.swept }))
+            let is : before (suc n) ≡ before n = grind (arith, now, append-nil (filter test (range_with_len 0 n))) in
+            rw (sym next, is)
+            (record { only = h.only; wide = h.wide; swept = swept_skip Nothing s new old (before n) n (noted_else ps o ws n (old n) t) h.swept })
       ]
 
   abbrev done : List (List Note)

@@ -1,8 +1,8 @@
 -- The first place of a number in a list, and lists whose numbers are apart and given.
-use Rattle.std.proofs.Common.{◌≡◌, ℕ, zero, suc, ◌<◌, ◌≤◌, true, false, not, ◌||◌, eqb, ltb, leb, ◌⊎◌, List, [], ◌∷◌, length, get_or, set, fold, min, Some, unwrap_or, sym, refl, ap, ◌∙◌, subst, inl, inr, arith}
+use Rattle.std.proofs.Common.{◌≡◌, ℕ, zero, suc, ◌<◌, ◌≤◌, true, false, ltb, ◌⊎◌, List, [], ◌∷◌, length, get_or, set, fold, min, Some, sym, refl, ap, ◌∙◌, subst, inl, inr, arith}
 use Rattle.std.proofs.lemmas.List.{get_or_past}
-use Rattle.std.proofs.lemmas.Option.{cond_some, none-some}
-use Rattle.std.proofs.lemmas.Bool.{cases_eq, cases_lt, and_parts, cond-true, cond-false, lt-ltb, le-ltb, and_from, or_cases, or_left, or_right, or_parts, or_from, both_ways, not-true, not_from_false, eq-eqb, ne_eqb, eqb-true, le-leb, leb-true}
+use Rattle.std.proofs.lemmas.Option.{none-some}
+use Rattle.std.proofs.lemmas.Bool.{cases_lt, lt-ltb, le-ltb, both_ways}
 use Rattle.std.proofs.lemmas.Bool.Decides.{nat_tests}
 use Rattle.granules.specs.Paths.{among}
 use Rattle.std.specs.List.{filter, reduce}
@@ -90,35 +90,27 @@ better n b (x ∷ xs) l =
     elim (cases_lt n x) [
       | inl m ↦
           let h = better n (min b x) xs (omega arith) in
-          let r = fold min (min b x) (filter (ltb n) xs) in
-          let is : fold min b (filter (ltb n) (x ∷ xs)) ≡ r = ap (fold min b) (cond-true (ltb n x) (x ∷ filter (ltb n) xs) (filter (ltb n) xs) (lt-ltb n x m)) in
-          subst (Better n b (x ∷ xs)) (sym is)
+          let t = lt-ltb n x m in
+          rw (t, filter)
           (record {
             above = h.above;
             below = omega (arith, h.below);
-            least = λ y e k.
-                elim (or_cases (eqb y x) (among y xs) e) [ inl z ↦ omega (arith, h.below, eqb-true y x z) | inr z ↦ h.least y z k ];
+            least = λ y e k. grind (arith, nat_tests, h.below, h.least y);
             found =
                 elim h.found [
-                  | inr e ↦ inr (or_right (eqb r x) (among r xs) e)
-                  | inl e ↦
-                      elim (cases_lt b x) [
-                        | inl k ↦ inl (omega (arith, e, k))
-                        | inr k ↦ inr (or_left (eqb r x) (among r xs) (eq-eqb r x (omega (arith, e, k))))
-                      ]
+                  | inr e ↦ inr (grind (arith, nat_tests))
+                  | inl e ↦ elim (cases_lt b x) [ inl k ↦ inl (omega arith) | inr k ↦ inr (grind (arith, nat_tests)) ]
                 ];
           })
       | inr m ↦
           let h = better n b xs l in
-          let r = fold min b (filter (ltb n) xs) in
-          let is : fold min b (filter (ltb n) (x ∷ xs)) ≡ r = ap (fold min b) (cond-false (ltb n x) (x ∷ filter (ltb n) xs) (filter (ltb n) xs) (le-ltb n x m)) in
-          subst (Better n b (x ∷ xs)) (sym is)
+          let t = le-ltb n x m in
+          rw (t, filter)
           (record {
             above = h.above;
             below = h.below;
-            least = λ y e k.
-                elim (or_cases (eqb y x) (among y xs) e) [ inl z ↦ absurd (omega (arith, m, k, eqb-true y x z)) | inr z ↦ h.least y z k ];
-            found = elim h.found [ inl e ↦ inl e | inr e ↦ inr (or_right (eqb r x) (among r xs) e) ];
+            least = λ y e k. grind (arith, nat_tests, h.least y);
+            found = elim h.found [ inl e ↦ inl e | inr e ↦ inr (grind (arith, nat_tests)) ];
           })
     ]
 
@@ -128,34 +120,21 @@ next_nearest n (x ∷ xs) =
     elim (cases_lt n x) [
       | inl m ↦
           let h = better n x xs m in
-          let r = fold min x (filter (ltb n) xs) in
-          let is : next_above n (x ∷ xs) ≡ r =
-          ap (λ (ys : List ℕ). unwrap_or (reduce min ys) 0) (cond-true (ltb n x) (x ∷ filter (ltb n) xs) (filter (ltb n) xs) (lt-ltb n x m))
-          in
-          let some : r ≡ 0 → ⊥ = λ z. omega (arith, z, h.above) in
-          subst (Nearest n (x ∷ xs)) (sym is)
+          let t = lt-ltb n x m in
+          rw (t, filter)
           (record {
             above = λ d. h.above;
-            least = λ y e k.
-                elim (or_cases (eqb y x) (among y xs) e) [ inl z ↦ (some, omega (arith, h.below, eqb-true y x z)) | inr z ↦ (some, h.least y z k) ];
-            found = λ d.
-                elim h.found [
-                  | inl e ↦ or_left (eqb r x) (among r xs) (eq-eqb r x e)
-                  | inr e ↦ or_right (eqb r x) (among r xs) e
-                ];
+            least = λ y e k. (λ z. omega (arith, z, h.above), grind (arith, nat_tests, h.below, h.least y));
+            found = λ d. elim h.found [ inl e ↦ grind (arith, nat_tests) | inr e ↦ grind (arith, nat_tests) ];
           })
       | inr m ↦
           let h = next_nearest n xs in
-          let r = next_above n xs in
-          let is : next_above n (x ∷ xs) ≡ r =
-          ap (λ (ys : List ℕ). unwrap_or (reduce min ys) 0) (cond-false (ltb n x) (x ∷ filter (ltb n) xs) (filter (ltb n) xs) (le-ltb n x m))
-          in
-          subst (Nearest n (x ∷ xs)) (sym is)
+          let t = le-ltb n x m in
+          rw (t, filter)
           (record {
             above = h.above;
-            least = λ y e k.
-                elim (or_cases (eqb y x) (among y xs) e) [ inl z ↦ absurd (omega (arith, m, k, eqb-true y x z)) | inr z ↦ h.least y z k ];
-            found = λ d. or_right (eqb r x) (among r xs) (h.found d);
+            least = λ y e k. h.least y (grind (arith, nat_tests)) k;
+            found = λ d. grind (arith, nat_tests, h.found d);
           })
     ]
 

@@ -1,10 +1,8 @@
 -- What the seats say of each slot: of its number and of the state of the job in it.
 use Rattle.std.proofs.lemmas.Bool.Decides.{nat_tests}
-use Rattle.std.proofs.Common.{◌≡◌, ℕ, suc, min, ltb, ◌<◌, ◌≤◌, [], ◌∷◌, true, not, eqb, Option, Some, None, unwrap_or, List, length, get_or, set, sym, refl, ap, ap₂, cond, ◌∙◌, subst, inl, inr, lit<, arith}
+use Rattle.std.proofs.Common.{◌≡◌, ℕ, suc, min, ltb, ◌<◌, ◌≤◌, [], ◌∷◌, true, eqb, Option, Some, None, unwrap_or, List, length, get_or, set, sym, refl, ap, ap₂, cond, ◌∙◌, subst, lit<, arith}
 use Rattle.std.proofs.Math.ListN.{get_or-map}
 use Rattle.std.proofs.lemmas.List.{length-map, get_or-set_same, get_or-set_other}
-use Rattle.std.proofs.lemmas.Option.{cond_some, none-some}
-use Rattle.std.proofs.lemmas.Bool.{and_from, and_parts, cases_eq, cases_lt, cond-false, cond-true, le-ltb, lt-ltb, ltb-true, cases_Bool, ne_eqb, not-true}
 use Rattle.std.specs.List.{filter, filter_map, position, position_or_len, reduce}
 use Rattle.ledger.specs.declared.job.Status.{Status}
 use Rattle.ledger.specs.declared.job.Status.TheVariants.{Working, Ended}
@@ -42,7 +40,7 @@ module _ (s : Seats) where
   state_at i = get_or-map state_in s.slots i None
 
   pub free_at : (i : ℕ) → eqb (get_or (numbers_of s) i 0) 0 ≡ is_ended (get_or (states_of s) i Ended)
-  free_at i = ap (λ (n : ℕ). eqb n 0) (number_at i) ∙ free_in (get_or s.slots i None) (s.proper i) ∙ sym (ap is_ended (state_at i))
+  free_at i = grind (arith, number_at i, free_in (get_or s.slots i None) (s.proper i), state_at i)
 
   pub near_at : (i : ℕ) → (wanted (get_or (states_of s) i Ended)).granule < 256
   near_at i = subst (λ (x : Status). (wanted x).granule < 256) (sym (state_at i)) (near_in (get_or s.slots i None) (s.proper i))
@@ -109,16 +107,7 @@ module _ (s : Seats) where
       ap₂ (λ (i n : ℕ). cond (ltb i n) (Some i) None) (first_free s.slots s.proper) s.full
 
   pub place_of : (k : ℕ) → position (has (Some k)) s.slots ≡ seated (slot (numbers_of s) k)
-  place_of k =
-      elim (cases_eq k 0) [
-        | inr d ↦
-            let z = ne_eqb k 0 d in
-            rw (z, slot) (ap₂ (λ (i n : ℕ). cond (ltb i n) (Some i) None) (first_with s.slots k d) s.full)
-        | inl e ↦
-            let none : position (has (Some 0)) s.slots ≡ seated (slot (numbers_of s) 0) =
-            ap₂ (λ (i n : ℕ). cond (ltb i n) (Some i) None) (no_zero s.slots s.proper ∙ s.full) s.full ∙ ap seated (sym (numbers_full s)) in
-            subst (λ (n : ℕ). position (has (Some n)) s.slots ≡ seated (slot (numbers_of s) n)) (sym e) none
-      ]
+  place_of k = grind (arith, nat_tests, first_with s.slots k, no_zero s.slots s.proper, s.full, numbers_full s)
 
 -- what a slot that is found says of the place, and what one that is not
 pub seated_at : (i k : ℕ) → Some k ≡ seated i → (i < 16) × (i ≡ k)

@@ -1,9 +1,8 @@
 -- What an attempt comes to.
-use Rattle.std.proofs.Common.{◌≡◌, ℕ, ◌<◌, Bool, true, false, eqb, List, [], ◌∷◌, get_or, set, sym, refl, ap, ◌∙◌, ap₂, inl, inr, arith}
-use Rattle.std.proofs.lemmas.Bool.{cases_Bool}
+use Rattle.std.proofs.lemmas.Bool.Decides.{nat_tests}
+use Rattle.std.proofs.Common.{◌≡◌, ℕ, ◌<◌, Bool, true, false, List, [], ◌∷◌, get_or, set, sym, refl, ap, ◌∙◌, ap₂, arith}
 use Rattle.modes.specs.Systems.{System}
 use Rattle.modes.specs.declared.kind.Kind.{Kind}
-use Rattle.granules.specs.Below.{some_below}
 use Rattle.granules.specs.Paths.{path}
 use Rattle.operations.specs.declared.operation.Operation.{Operation}
 use Rattle.operations.specs.Actions.{kind}
@@ -13,12 +12,11 @@ use Rattle.ledger.specs.declared.job.Note.TheVariants.{Nothing}
 use Rattle.ledger.specs.declared.job.Status.{Status}
 use Rattle.ledger.specs.declared.job.Status.TheVariants.{Wounded, Ended}
 use Rattle.ledger.specs.Jobs.{is_open, now_is, where_so}
-use Rattle.ledger.specs.Walks.{Walked, has, target, must_give_way, yields, blocks}
+use Rattle.ledger.specs.Walks.{Walked, target, must_give_way, yields}
 use Rattle.ledger.specs.Ledgers.{Layout, attempt}
 use Rattle.ledger.specs.declared.call.Answer.TheVariants.{Told, Waits}
 use Rattle.ledger.specs.Models.{Model, Served, model_hands, carried, try}
 use Rattle.ledger.proofs.Kept.{judged_self}
-use Rattle.ledger.proofs.Walking.{walk_covered, walk_same, walk_stops, walk_goes}
 use Rattle.ledger.proofs.Wounds.{where_false}
 use Rattle.tables.specs.declared.kernel.walks.Walker.{Walker}
 use Rattle.tables.specs.declared.held.Held.{Held}
@@ -55,18 +53,8 @@ module _ (s : System) (w : Walker) where
   walk_own [] m = refl
   walk_own (x ∷ xs) m =
       let rest : (n : Model) → state (walk_on s w xs n) ≡ n.jobs.status w.job = walk_own xs in
-      elim (cases_Bool (has s (own m x) (s.full w.kind))) [
-        | inl e ↦ ap state (walk_covered model_hands s w.kind w.goal w.job x xs m e)
-        | inr e ↦
-            elim (cases_Bool (eqb (wants m x) (own m x))) [
-              | inl f ↦ ap state (walk_same model_hands s w.kind w.goal w.job x xs m e f) ∙ rest m
-              | inr f ↦
-                  elim (cases_Bool (some_below w.job (blocks s m.jobs w.job x (wants m x)))) [
-                    | inl b ↦ ap state (walk_stops model_hands s w.kind w.goal w.job x xs m e f b) ∙ spared m x
-                    | inr b ↦ ap state (walk_goes model_hands s w.kind w.goal w.job x xs m e f b) ∙ rest _ ∙ spared m x
-                  ]
-            ]
-      ]
+      let same = spared m x in
+      grind (arith, nat_tests, same, rest m, rest (model_hands.wound (yields s m.jobs w.job x (wants m x)) m))
 
 -- A state written in a slot is the state of its job.
 pub turn_view :

@@ -1,13 +1,12 @@
 -- What a change in one slot is to the job that sits there.
 use Rattle.std.proofs.lemmas.Bool.Decides.{nat_tests}
-use Rattle.std.proofs.Common.{◌≡◌, ℕ, ◌<◌, ◌≤◌, true, false, eqb, List, [], length, get_or, set, replicate, sym, ap, ◌∙◌, inl, inr, arith}
+use Rattle.std.proofs.Common.{◌≡◌, ℕ, ◌<◌, ◌≤◌, true, false, eqb, List, [], length, get_or, set, replicate, sym, ap, ◌∙◌, arith}
 use mathlib.Core.Path.{fun_ext}
 use Rattle.std.proofs.lemmas.List.{get_or-set_same, get_or-set_other}
-use Rattle.std.proofs.lemmas.Bool.{cases_eq, cases_lt, both_ways, eq-eqb, ne_eqb}
+use Rattle.std.proofs.lemmas.Bool.{eq-eqb, ne_eqb}
 use Rattle.granules.specs.Paths.{among}
 use Rattle.ledger.specs.declared.job.Status.TheVariants.{Ended}
 use Rattle.ledger.specs.Jobs.{is_ended, put, where_so}
-use Rattle.ledger.proofs.Piles.{put_at, put_other}
 use Rattle.tables.specs.declared.seats.Seats.{Seats}
 use Rattle.tables.specs.Grids.{cell, with_cell}
 use Rattle.tables.specs.Seats.{place, slot, distinct}
@@ -51,17 +50,11 @@ seated_given seats k e = grind (arith, nat_tests, new_among seats.opened (number
 
 -- whoever sits in a slot has not ended
 pub seated_lives : (seats : Seats) (k : ℕ) → slot (numbers_of seats) k < 16 → is_ended (get_or (states_of seats) (slot (numbers_of seats) k) Ended) ≡ false
-seated_lives seats k l =
-    let n = slot_number (numbers_of seats) k (omega (arith, (numbers_full seats))) in
-    sym (free_at seats (slot (numbers_of seats) k))
-    ∙ ap (λ (j : ℕ). eqb j 0) n.0
-    ∙ ne_eqb k 0 n.1
+seated_lives seats k l = grind (arith, nat_tests, slot_number (numbers_of seats) k, numbers_full seats, free_at seats (slot (numbers_of seats) k))
 
 -- and its slot is not free
 pub not_free : (seats : Seats) (k i : ℕ) → slot (numbers_of seats) k < 16 → get_or (numbers_of seats) i 0 ≡ 0 → i ≡ slot (numbers_of seats) k → ⊥
-not_free seats k i l free e =
-    let n = slot_number (numbers_of seats) k (omega (arith, (numbers_full seats))) in
-    n.1 (sym n.0 ∙ ap (λ (j : ℕ). get_or (numbers_of seats) j 0) (sym e) ∙ free)
+not_free seats k i l free e = grind (arith, nat_tests, slot_number (numbers_of seats) k, numbers_full seats)
 
 -- A row written at the slot of job k is what job k has, and nobody else.
 pub view_set :

@@ -1,15 +1,15 @@
 -- Jobs wounded one after the other, the oldest first, are wounded as the model has it.
 use Rattle.std.proofs.lemmas.Bool.Decides.{nat_tests}
-use Rattle.std.proofs.Common.{◌≡◌, ℕ, zero, suc, ◌<◌, ◌≤◌, Bool, true, false, ◌&&◌, eqb, ltb, List, length, get_or, set, replicate, sym, refl, ap, ◌∙◌, subst, ap₂, inl, inr, arith}
+use Rattle.std.proofs.Common.{◌≡◌, ℕ, zero, suc, ◌<◌, ◌≤◌, Bool, true, false, ◌&&◌, eqb, ltb, List, length, get_or, set, replicate, sym, refl, ap, ◌∙◌, ap₂, inl, inr, arith}
 use mathlib.Core.Path.{fun_ext}
-use Rattle.std.proofs.lemmas.Bool.{cases_eq, cases_lt, cases_Bool, and_from, and_left, and_right, lt-ltb, le-ltb, eq-eqb, ne_eqb}
+use Rattle.std.proofs.lemmas.Bool.{cases_eq}
 use Rattle.ledger.specs.declared.job.Note.{Note}
 use Rattle.ledger.specs.declared.job.Note.TheVariants.{Nothing}
 use Rattle.ledger.specs.declared.job.Status.{Status}
 use Rattle.ledger.specs.declared.job.Status.TheVariants.{Wounded, Ended}
 use Rattle.ledger.specs.Jobs.{where_so, wound_jobs}
 use Rattle.ledger.specs.Models.{Model, model_hands, taken_back, all_taken_back}
-use Rattle.ledger.proofs.Wounds.{where_true, where_false, where_cong}
+use Rattle.ledger.proofs.Wounds.{where_false, where_cong}
 use Rattle.tables.specs.declared.kernel.Core.{Core}
 use Rattle.tables.specs.Grids.{cell}
 use Rattle.tables.specs.Seats.{slot}
