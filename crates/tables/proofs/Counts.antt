@@ -1,6 +1,6 @@
 -- Jobs counted by their numbers are the slots counted one by one.
 use Rattle.std.proofs.lemmas.Bool.Decides.{nat_tests}
-use Rattle.std.proofs.Common.{◌≡◌, ℕ, zero, suc, ◌+◌, ◌<◌, Bool, true, false, cond, not, ◌||◌, eqb, leb, List, [], ◌∷◌, length, get_or, sym, refl, ap, ◌∙◌, subst, inl, inr, arith}
+use Rattle.std.proofs.Common.{◌≡◌, ℕ, zero, suc, ◌+◌, ◌<◌, Bool, true, false, cond, not, ◌||◌, eqb, leb, List, [], ◌∷◌, length, get_or, sym, refl, ap, ◌∙◌, inl, inr, arith}
 use Rattle.std.proofs.lemmas.List.{get_or_past}
 use Rattle.std.proofs.lemmas.Bool.{cases_eq, both_ways, and_parts, le-leb, lt-leb, leb-true}
 use Rattle.granules.specs.Below.{count_below}
@@ -98,10 +98,7 @@ module _ (seats : Seats) (held : Held) where
       (omega (arith, seated, count_all 16 lives (λ k l. taken k (λ z. nobody k l z))))
     where
       nobody : (k : ℕ) → k < 16 → get_or (numbers_of seats) k 0 ≡ 0 → ⊥
-      nobody k l z =
-          let numbers = (numbers_of seats) in
-          let here = subst (λ (v : ℕ). among v numbers ≡ true) z (among_at numbers k (omega (arith, (numbers_full seats)))) in
-          omega (arith, among_place numbers 0 here, e, (numbers_full seats))
+      nobody k l z = grind (arith, among_at (numbers_of seats) k, among_place (numbers_of seats) 0, e, numbers_full seats)
 
   pub one_free : place (numbers_of seats) 0 < 16 → leb 16 (unended (jobs_of seats held)) ≡ false
   one_free l =

@@ -58,13 +58,8 @@ module _ (s : System) (law : Lawful s) {M S : Type 0} (words : S → List ℕ) (
   -- nobody between a number and the next gives way
   between : (n k : ℕ) → n < k → k < far c.seats.opened (next_above n (numbers_of c.seats)) → in_way k ≡ false
   between n k l h =
-      let next = next_above n (numbers_of c.seats) in
-      elim (cases_Bool (in_way k)) [
-        | inr e ↦ e
-        | inl e ↦
-            let least = (next_nearest n (numbers_of c.seats)).least k (in_way_seated k e).1 l in
-            absurd (omega (arith, least.1, far_at c.seats.opened next least.0))
-      ]
+      let next = next_nearest n (numbers_of c.seats) in
+      grind (arith, nat_tests, in_way_seated k, next.least k, far_at c.seats.opened (next_above n (numbers_of c.seats)))
 
   -- How far the wounding has come, in c', when `job` is the next to be met.
   pub record Reached (c' : Core M S) (job : ℕ) : Type 0 where

@@ -1,5 +1,5 @@
 -- The first place of a number in a list, and lists whose numbers are apart and given.
-use Rattle.std.proofs.Common.{◌≡◌, ℕ, zero, suc, ◌<◌, ◌≤◌, true, false, ltb, ◌⊎◌, List, [], ◌∷◌, length, get_or, set, fold, min, Some, sym, refl, ap, ◌∙◌, subst, inl, inr, arith}
+use Rattle.std.proofs.Common.{◌≡◌, ℕ, zero, suc, ◌<◌, ◌≤◌, true, false, ltb, List, [], ◌∷◌, length, get_or, set, fold, min, Some, sym, refl, ap, ◌∙◌, subst, inl, inr, arith}
 use Rattle.std.proofs.lemmas.List.{get_or_past}
 use Rattle.std.proofs.lemmas.Option.{none-some}
 use Rattle.std.proofs.lemmas.Bool.{cases_lt, lt-ltb, le-ltb, both_ways}
@@ -77,15 +77,14 @@ pub record Nearest (n : ℕ) (xs : List ℕ) (r : ℕ) : Type 0 where
   pub least : (x : ℕ) → among x xs ≡ true → n < x → (r ≡ 0 → ⊥) × (r ≤ x)
   pub found : (r ≡ 0 → ⊥) → among r xs ≡ true
 
--- The same, where a number was had before.
-record Better (n b : ℕ) (xs : List ℕ) (r : ℕ) : Type 0 where
+-- The same, where there is one.
+record Least (n : ℕ) (xs : List ℕ) (r : ℕ) : Type 0 where
   above : n < r
-  below : r ≤ b
   least : (x : ℕ) → among x xs ≡ true → n < x → r ≤ x
-  found : (r ≡ b) ⊎ (among r xs ≡ true)
+  found : among r xs ≡ true
 
-better : (n b : ℕ) (xs : List ℕ) → n < b → Better n b xs (fold min b (filter (ltb n) xs))
-better n b [] l = record { above = l; below = omega arith; least = λ x e. absurd (both_ways false refl e); found = inl refl }
+better : (n b : ℕ) (xs : List ℕ) → n < b → Least n (b ∷ xs) (fold min b (filter (ltb n) xs))
+better n b [] l = record { above = l; least = λ y e k. grind (arith, nat_tests); found = grind (arith, nat_tests) }
 better n b (x ∷ xs) l =
     elim (cases_lt n x) [
       | inl m ↦
@@ -94,24 +93,14 @@ better n b (x ∷ xs) l =
           rw (t, filter)
           (record {
             above = h.above;
-            below = omega (arith, h.below);
-            least = λ y e k. grind (arith, nat_tests, h.below, h.least y);
-            found =
-                elim h.found [
-                  | inr e ↦ inr (grind (arith, nat_tests))
-                  | inl e ↦ elim (cases_lt b x) [ inl k ↦ inl (omega arith) | inr k ↦ inr (grind (arith, nat_tests)) ]
-                ];
+            least = λ y e k. grind (arith, nat_tests, h.least y, h.least (min b x));
+            found = grind (arith, nat_tests, h.found);
           })
       | inr m ↦
           let h = better n b xs l in
           let t = le-ltb n x m in
           rw (t, filter)
-          (record {
-            above = h.above;
-            below = h.below;
-            least = λ y e k. grind (arith, nat_tests, h.least y);
-            found = elim h.found [ inl e ↦ inl e | inr e ↦ inr (grind (arith, nat_tests)) ];
-          })
+          (record { above = h.above; least = λ y e k. grind (arith, nat_tests, h.least y); found = grind (arith, nat_tests, h.found) })
     ]
 
 pub next_nearest : (n : ℕ) (numbers : List ℕ) → Nearest n numbers (next_above n numbers)
@@ -122,20 +111,12 @@ next_nearest n (x ∷ xs) =
           let h = better n x xs m in
           let t = lt-ltb n x m in
           rw (t, filter)
-          (record {
-            above = λ d. h.above;
-            least = λ y e k. (λ z. omega (arith, z, h.above), grind (arith, nat_tests, h.below, h.least y));
-            found = λ d. elim h.found [ inl e ↦ grind (arith, nat_tests) | inr e ↦ grind (arith, nat_tests) ];
-          })
+          (record { above = λ d. h.above; least = λ y e k. (λ z. omega (arith, z, h.above), h.least y e k); found = λ d. h.found })
       | inr m ↦
           let h = next_nearest n xs in
           let t = le-ltb n x m in
           rw (t, filter)
-          (record {
-            above = h.above;
-            least = λ y e k. h.least y (grind (arith, nat_tests)) k;
-            found = λ d. grind (arith, nat_tests, h.found d);
-          })
+          (record { above = h.above; least = λ y e k. h.least y (grind (arith, nat_tests)) k; found = λ d. grind (arith, nat_tests, h.found d) })
     ]
 
 -- a number that is found is above n

@@ -11,7 +11,6 @@ use Rattle.ledger.specs.Ledgers.{wanted}
 use Rattle.tables.specs.declared.slot.Slot.{Slot}
 use Rattle.tables.specs.declared.seats.Seats.{Seats}
 use Rattle.tables.specs.declared.slot.Event.{Event}
-use Rattle.tables.specs.declared.slot.Event.TheVariants.{Through, Stop, Wound, Reopen}
 use Rattle.tables.specs.Slots.{moved, near}
 use Rattle.tables.specs.Seats.{above, after, given, has, next_above, number_in, numbers_in, place, proper, seated, slot, state_in}
 use Rattle.tables.specs.Views.{numbers_of, states_of}
@@ -57,15 +56,10 @@ working_proper n l = grind (arith, nat_tests)
 
 -- the state of a job that something has happened to; a free slot is still free
 pub after_state : (o : Option Slot) (e : Event) → near e ≡ true → state_in (after e o) ≡ moved (state_in o) e
-after_state None Through h = refl
-after_state None (Stop q) h = refl
-after_state None Wound h = refl
-after_state None Reopen h = refl
-after_state (Some s) e h = refl
+after_state o e h = grind (arith, nat_tests, h)
 
 pub after_number : (o : Option Slot) (e : Event) → number_in (after e o) ≡ number_in o
-after_number None e = refl
-after_number (Some s) e = refl
+after_number o e = grind (arith, nat_tests)
 
 -- the first free slot, and the slot of a job, are those that the numbers tell
 first_free : (slots : List (Option Slot)) → ((i : ℕ) → proper (get_or slots i None) ≡ true) → position_or_len (has None) slots ≡ place (numbers_in slots) 0
@@ -89,8 +83,7 @@ above_n n (None ∷ os) = grind (arith, nat_tests, above_n n os)
 above_n n (Some s ∷ os) = grind (arith, nat_tests, above_n n os)
 
 given_again : (n : ℕ) (numbers : List ℕ) (o : Option ℕ) → reduce min (filter (ltb n) numbers) ≡ o → o ≡ given (unwrap_or o 0)
-given_again n numbers None e = refl
-given_again n numbers (Some k) e = sym (given_some k (λ z. omega (arith, z, next_some n numbers k e)))
+given_again n numbers o e = grind (arith, nat_tests, next_some n numbers)
 
 pub least_above : (n : ℕ) (slots : List (Option Slot)) → reduce min (filter_map (above n) slots) ≡ given (next_above n (numbers_in slots))
 least_above n slots =

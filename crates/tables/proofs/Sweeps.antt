@@ -25,9 +25,6 @@ module _ {A : Type 0} (d : A) (s : ℕ) (f old : ℕ → A) where
   pub swept_all : (rows : List (List A)) (p : ℕ) → ((r : ℕ) → p ≤ r → f r ≡ old r) → Swept p rows → (r : ℕ) → cell d rows s r ≡ f r
   swept_all rows p h e r = grind (arith, nat_tests, e r, h r)
 
-  else_where : (p r : ℕ) → (r ≡ p → ⊥) → cond (ltb r p) (f r) (old r) ≡ cond (ltb r (p + 1)) (f r) (old r)
-  else_where p r e = grind (arith, nat_tests)
-
   -- a cell that does not change
   pub swept_skip : (rows : List (List A)) (p : ℕ) → f p ≡ old p → Swept p rows → Swept (p + 1) rows
   swept_skip rows p h e r = grind (arith, nat_tests, e r, h)

@@ -10,9 +10,6 @@ use Rattle.tables.proofs.Grids.{empty, empty_cell, long_at}
 pub one_same : (h m : ℕ) → h ≡ m → (m ≡ 0 → ⊥) → one h m ≡ 1
 one_same h m e some = grind (arith, nat_tests)
 
-pub one_other : (h m : ℕ) → (h ≡ m → ⊥) → one h m ≡ 0
-one_other h m e = grind (arith, nat_tests)
-
 -- no lock is not counted
 pub one_none : (m : ℕ) → one 0 m ≡ 0
 one_none m = grind (arith, nat_tests)
@@ -39,9 +36,6 @@ tally_some (row ∷ rows) x m l =
       | inl e ↦ let r = tally_some rows x m (omega arith) in (suc r.0, omega (arith, r.1), r.2)
       | inr e ↦ (0, omega arith, omega arith)
     ]
-
-tally_blank_row : (row : List ℕ) (rows : List (List ℕ)) (x m : ℕ) → get_or row x 0 ≡ 0 → tally (row ∷ rows) x m ≡ tally rows x m
-tally_blank_row row rows x m e = omega (arith, ap (λ (h : ℕ). one h m) e, one_none m)
 
 tally_blank : (n : ℕ) (x m : ℕ) → tally (replicate n (replicate 256 0)) x m ≡ 0
 tally_blank zero x m = refl

@@ -3,7 +3,7 @@ use Rattle.std.proofs.lemmas.Bool.Decides.{nat_tests}
 use Rattle.std.proofs.Common.{◌≡◌, ℕ, ◌<◌, ◌≤◌, true, false, eqb, List, [], length, get_or, set, replicate, sym, ap, ◌∙◌, arith}
 use mathlib.Core.Path.{fun_ext}
 use Rattle.std.proofs.lemmas.List.{get_or-set_same, get_or-set_other}
-use Rattle.std.proofs.lemmas.Bool.{eq-eqb, ne_eqb}
+use Rattle.std.proofs.lemmas.Bool.{ne_eqb}
 use Rattle.granules.specs.Paths.{among}
 use Rattle.ledger.specs.declared.job.Status.TheVariants.{Ended}
 use Rattle.ledger.specs.Jobs.{is_ended, put, where_so}
@@ -14,9 +14,6 @@ use Rattle.tables.proofs.Grids.{empty}
 use Rattle.tables.proofs.Places.{place_at, place_among, among_place, place_own, new_among}
 use Rattle.tables.specs.Views.{numbers_of, states_of}
 use Rattle.tables.proofs.Sitting.{numbers_full, free_at}
-
-pub slot_none : (numbers : List ℕ) (k : ℕ) → k ≡ 0 → slot numbers k ≡ length numbers
-slot_none numbers k e = let t = eq-eqb k 0 e in rw (t, slot)
 
 pub slot_some : (numbers : List ℕ) (k : ℕ) → (k ≡ 0 → ⊥) → slot numbers k ≡ place numbers k
 slot_some numbers k e = let t = ne_eqb k 0 e in rw (t, slot)

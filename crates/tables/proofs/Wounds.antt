@@ -9,7 +9,7 @@ use Rattle.ledger.specs.declared.job.Status.{Status}
 use Rattle.ledger.specs.declared.job.Status.TheVariants.{Wounded, Ended}
 use Rattle.ledger.specs.Jobs.{where_so, wound_jobs}
 use Rattle.ledger.specs.Models.{Model, model_hands, taken_back, all_taken_back}
-use Rattle.ledger.proofs.Wounds.{where_false, where_cong}
+use Rattle.ledger.proofs.Wounds.{where_false}
 use Rattle.tables.specs.declared.kernel.Core.{Core}
 use Rattle.tables.specs.Grids.{cell}
 use Rattle.tables.specs.Seats.{slot}
@@ -23,11 +23,9 @@ pub model_eq :
     (m n : Model) → m.jobs.opened ≡ n.jobs.opened → ((k : ℕ) → m.jobs.status k ≡ n.jobs.status k)
     → ((k x : ℕ) → m.jobs.mode k x ≡ n.jobs.mode k x) → m.words ≡ n.words → ((k r : ℕ) → m.notes k r ≡ n.notes k r) → m ≡ n
 model_eq m n o s d w t =
-    ap (λ (a : ℕ). mk a m.jobs.status m.jobs.mode m.words m.notes) o
-    ∙ ap (λ (a : ℕ → Status). mk n.jobs.opened a m.jobs.mode m.words m.notes) (fun_ext s)
-    ∙ ap (λ (a : ℕ → ℕ → ℕ). mk n.jobs.opened n.jobs.status a m.words m.notes) (fun_ext (λ k. fun_ext (d k)))
-    ∙ ap (λ (a : List ℕ). mk n.jobs.opened n.jobs.status n.jobs.mode a m.notes) w
-    ∙ ap (λ (a : ℕ → ℕ → Note). mk n.jobs.opened n.jobs.status n.jobs.mode n.words a) (fun_ext (λ k. fun_ext (t k)))
+    ap₂ (λ (a : ℕ) (b : ℕ → Status). mk a b m.jobs.mode m.words m.notes) o (fun_ext s)
+    ∙ ap₂ (λ (a : ℕ → ℕ → ℕ) (b : List ℕ). mk n.jobs.opened n.jobs.status a b m.notes) (fun_ext (λ k. fun_ext (d k))) w
+    ∙ ap (mk n.jobs.opened n.jobs.status n.jobs.mode n.words) (fun_ext (λ k. fun_ext (t k)))
   where
     mk : ℕ → (ℕ → Status) → (ℕ → ℕ → ℕ) → List ℕ → (ℕ → ℕ → Note) → Model
     mk a b c d e = record { jobs = record { opened = a; status = b; mode = c }; words = d; notes = e }
@@ -60,13 +58,12 @@ wound_view words c c' k l w n s o h t =
 abbrev pub upto : (ℕ → Bool) → ℕ → ℕ → Bool
 upto p n k = p k && ltb k n
 
+-- those that the test picks wounded, with these words left
+abbrev wounded_as : Model → (ℕ → Bool) → List ℕ → Model
+wounded_as m q ws = record { jobs = wound_jobs q m.jobs; words = ws; notes = where_so q (λ _. Nothing) m.notes }
+
 abbrev pub wounded_upto : (ℕ → Bool) → ℕ → Model → Model
-wounded_upto p n m =
-    record {
-      jobs = wound_jobs (upto p n) m.jobs;
-      words = all_taken_back p m.notes n m.words;
-      notes = where_so (upto p n) (λ _. Nothing) m.notes;
-    }
+wounded_upto p n m = wounded_as m (upto p n) (all_taken_back p m.notes n m.words)
 
 module _ (p : ℕ → Bool) where
   pub upto_here : (n : ℕ) → upto p n n ≡ false
@@ -87,12 +84,7 @@ module _ (p : ℕ → Bool) where
       ]
 
   pub skip : (m : Model) (n n' : ℕ) → n ≤ n' → ((k : ℕ) → n ≤ k → k < n' → p k ≡ false) → wounded_upto p n m ≡ wounded_upto p n' m
-  skip m n n' l h =
-      model_eq (wounded_upto p n m) (wounded_upto p n' m) refl
-      (λ k. where_cong (upto p n) (upto p n') Wounded m.jobs.status k (upto_skip n n' l h k))
-      (λ k x. ap (λ (f : ℕ → ℕ). f x) (where_cong (upto p n) (upto p n') (λ _. 0) m.jobs.mode k (upto_skip n n' l h k)))
-      (back_skip m.notes m.words n n' l h)
-      (λ k r. ap (λ (f : ℕ → Note). f r) (where_cong (upto p n) (upto p n') (λ _. Nothing) m.notes k (upto_skip n n' l h k)))
+  skip m n n' l h = ap₂ (wounded_as m) (fun_ext (upto_skip n n' l h)) (back_skip m.notes m.words n n' l h)
 
   -- nobody wounded yet
   pub start : (m : Model) (n : ℕ) → ((k : ℕ) → k < n → p k ≡ false) → m ≡ wounded_upto p n m
@@ -118,10 +110,5 @@ module _ (p : ℕ → Bool) where
   pub all : (m : Model) (n : ℕ) → suc m.jobs.opened ≤ n → ((k : ℕ) → p k ≡ true → k < suc m.jobs.opened) → wounded_upto p n m ≡ model_hands.wound p m
   all m n l h =
       let last = suc m.jobs.opened in
-      let same : (k : ℕ) → upto p last k ≡ p k = λ k. grind (arith, nat_tests, h k) in
       sym (skip m last n l (λ k a b. grind (arith, nat_tests, h k)))
-      ∙ model_eq (wounded_upto p last m) (model_hands.wound p m) refl
-      (λ k. where_cong (upto p last) p Wounded m.jobs.status k (same k))
-      (λ k x. ap (λ (f : ℕ → ℕ). f x) (where_cong (upto p last) p (λ _. 0) m.jobs.mode k (same k)))
-      refl
-      (λ k r. ap (λ (f : ℕ → Note). f r) (where_cong (upto p last) p (λ _. Nothing) m.notes k (same k)))
+      ∙ ap (λ (f : ℕ → Bool). wounded_as m f (all_taken_back p m.notes last m.words)) (fun_ext (λ k. grind (arith, nat_tests, h k)))
