@@ -89,20 +89,16 @@ module _ (seats : Seats) (held : Held) where
       ∙ ap (λ (n : ℕ). count_below n lives) (numbers_full seats)
 
   -- where somebody sits, nobody has ended
-  taken : (i : ℕ) → (get_or (numbers_of seats) i 0 ≡ 0 → ⊥) → lives i ≡ true
-  taken i d = grind (arith, nat_tests, free_at seats i)
 
   pub all_taken : place (numbers_of seats) 0 ≡ 16 → leb 16 (unended (jobs_of seats held)) ≡ true
   all_taken e =
-      le-leb 16 (unended (jobs_of seats held))
-      (omega (arith, seated, count_all 16 lives (λ k l. taken k (λ z. nobody k l z))))
-    where
-      nobody : (k : ℕ) → k < 16 → get_or (numbers_of seats) k 0 ≡ 0 → ⊥
-      nobody k l z = grind (arith, among_at (numbers_of seats) k, among_place (numbers_of seats) 0, e, numbers_full seats)
+      let numbers = numbers_of seats in
+      let all =
+      count_all 16 lives (λ k l. grind (arith, nat_tests, free_at seats k, among_at numbers k, among_place numbers 0, e, numbers_full seats)) in
+      le-leb 16 (unended (jobs_of seats held)) (omega (arith, seated, all))
 
   pub one_free : place (numbers_of seats) 0 < 16 → leb 16 (unended (jobs_of seats held)) ≡ false
   one_free l =
       let i = place (numbers_of seats) 0 in
-      let zero_there = place_at (numbers_of seats) 0 (omega (arith, l, (numbers_full seats))) in
-      let gone : lives i ≡ false = grind (arith, nat_tests, free_at seats i, zero_there) in
+      let gone : lives i ≡ false = grind (arith, nat_tests, free_at seats i, place_at (numbers_of seats) 0, numbers_full seats) in
       lt-leb 16 (unended (jobs_of seats held)) (omega (arith, seated, count_lacks 16 lives i l gone))

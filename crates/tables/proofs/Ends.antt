@@ -17,14 +17,11 @@ use Rattle.tables.specs.Grids.{cell, is_nothing}
 use Rattle.tables.specs.Seats.{slot, distinct}
 use Rattle.tables.specs.Views.{whole, numbers_of, states_of}
 use Rattle.tables.proofs.Places.{place_set_other, place_set_new, among_gone, new_among, place_among}
-use Rattle.tables.proofs.Views.{slot_some, slot_number, slot_own}
+use Rattle.tables.proofs.Views.{slot_number, slot_own}
 use Rattle.tables.proofs.Wounds.{model_eq}
 use Rattle.tables.proofs.Sitting.{numbers_full, states_full}
 
 -- the slot of a job that is not touched by a write
-slot_set_other :
-    (numbers : List ℕ) (i v k : ℕ) → (k ≡ v → ⊥) → (k ≡ get_or numbers i 0 → ⊥) → slot (set numbers i v) k ≡ slot numbers k
-slot_set_other numbers i v k d e = grind (arith, nat_tests, length-set numbers i v, place_set_other numbers i v k)
 
 -- whoever sits nowhere has no slot of the table
 slot_gone : (numbers : List ℕ) (k : ℕ) → among k numbers ≡ false → length numbers ≤ slot numbers k
@@ -35,19 +32,13 @@ module _ (numbers : List ℕ) (k : ℕ) (apart : distinct numbers ≡ true) (l :
   abbrev place_of : ℕ
   place_of = slot numbers k
 
-  own_number : get_or numbers place_of 0 ≡ k
-  own_number = (slot_number numbers k l).0
-
-  some_number : k ≡ 0 → ⊥
-  some_number = (slot_number numbers k l).1
-
   gone : length numbers ≤ slot (set numbers place_of 0) k
   gone =
-      omega
-      (arith, slot_gone (set numbers place_of 0) k (among_gone numbers place_of k some_number apart own_number), length-set numbers place_of 0)
+      let n = slot_number numbers k l in
+      omega (arith, slot_gone (set numbers place_of 0) k (among_gone numbers place_of k n.1 apart n.0), length-set numbers place_of 0)
 
   others_stay : (j : ℕ) → (j ≡ k → ⊥) → slot (set numbers place_of 0) j ≡ slot numbers j
-  others_stay j d = grind (arith, nat_tests, length-set numbers place_of 0, slot_set_other numbers place_of 0 j, own_number)
+  others_stay j d = grind (arith, nat_tests, length-set numbers place_of 0, place_set_other numbers place_of 0 j, slot_number numbers k l)
 
   view_left :
       {A : Type 0} (rows : List A) (d v : A) → length rows ≡ length numbers → (j : ℕ)
@@ -95,16 +86,14 @@ end_view ws seats seats' held held' noted noted' k l n s o h t =
 -- A new number sits down in a free slot.
 module _ (numbers : List ℕ) (i n : ℕ) (l : i < length numbers) (vacant : get_or numbers i 0 ≡ 0) (some : n ≡ 0 → ⊥) (new : among n numbers ≡ false) where
   new_slot : slot (set numbers i n) n ≡ i
-  new_slot = slot_some (set numbers i n) n some ∙ place_set_new numbers i n l new
+  new_slot = grind (arith, nat_tests, some, place_set_new numbers i n l new)
 
   old_slot : (j : ℕ) → (j ≡ n → ⊥) → slot (set numbers i n) j ≡ slot numbers j
-  old_slot j d = grind (arith, nat_tests, length-set numbers i n, slot_set_other numbers i n j, vacant)
+  old_slot j d = grind (arith, nat_tests, length-set numbers i n, place_set_other numbers i n j, vacant)
 
   -- nobody has the free slot
   not_there : (j : ℕ) → slot numbers j ≡ i → ⊥
-  not_there j e =
-      let r = slot_number numbers j (omega arith) in
-      r.1 (sym r.0 ∙ ap (λ (x : ℕ). get_or numbers x 0) e ∙ vacant)
+  not_there j e = grind (arith, slot_number numbers j, vacant)
 
   view_sat : (states : List Status) → length states ≡ length numbers → (st : Status) → (j : ℕ)
       → get_or (set states i st) (slot (set numbers i n) j) Ended ≡ put n st (λ k. get_or states (slot numbers k) Ended) j

@@ -4,7 +4,7 @@ use Rattle.std.proofs.lemmas.Bool.Decides.{nat_tests}
 use Rattle.std.proofs.Common.{◌≡◌, ℕ, zero, suc, ◌+◌, ◌<◌, ◌≤◌, Bool, true, cond, not, eqb, List, [], ◌∷◌, length, get_or, sum, sym, refl, ap, ◌∙◌, inl, inr, arith}
 use Rattle.std.proofs.lemmas.List.{get_or_past}
 use Rattle.std.proofs.lemmas.List.Sums.{sum_by-cons}
-use Rattle.std.proofs.lemmas.Bool.{cases_eq, cases_lt, not_from_true, eq-eqb}
+use Rattle.std.proofs.lemmas.Bool.{cases_eq}
 use Rattle.modes.specs.Systems.{System, Lawful}
 use Rattle.granules.specs.Below.{sum_below, count_below}
 use Rattle.ledger.specs.Promises.{group, holders}
@@ -93,9 +93,7 @@ module _ {M S : Type 0} (c : Core M S) (x : ℕ) (inside : x < 256) where
       ∙ all_ext 16 (λ m. get_or counts m 0) (tally rows x) (c.held.agree x)
       ∙ tally_all rows 16 x small
       ∙ ap (λ (n : ℕ). count_below n q) (c.held.modes.full ∙ sym (numbers_full c.seats))
-      ∙ sym
-      (seat_count (numbers_of c.seats) c.seats.opened q c.seats.apart c.seats.known
-      (λ i e. not_from_true (eqb (cell 0 rows i x) 0) (eq-eqb (cell 0 rows i x) 0 (c.unlocked i x e))))
+      ∙ sym (seat_count (numbers_of c.seats) c.seats.opened q c.seats.apart c.seats.known (λ i e. grind (arith, nat_tests, c.unlocked i x e)))
 
   abbrev mode_of : ℕ → ℕ
   mode_of k = (jobs_of c.seats c.held).mode k x
@@ -108,12 +106,8 @@ module _ {M S : Type 0} (c : Core M S) (x : ℕ) (inside : x < 256) where
       elim (cases_eq h 0) [
         | inl e ↦ inl e
         | inr d ↦
-            elim (cases_lt i (length rows)) [
-              | inl l ↦
-                  let some = held_counted rows c.held.counts i x l c.held.agree in
-                  inr (h, small i l, grind (arith, nat_tests, some, one_same h h refl d))
-              | inr l ↦ absurd (grind (arith, d, get_or_past rows i [] l))
-            ]
+            let l : i < length rows = grind (arith, d, get_or_past rows i []) in
+            inr (h, small i l, grind (arith, nat_tests, held_counted rows c.held.counts i x l c.held.agree, one_same h h refl d))
       ]
 
   -- and whoever is counted there holds it

@@ -72,10 +72,6 @@ first_with [] k d = refl
 first_with (None ∷ os) k d = grind (arith, nat_tests, first_with os k d)
 first_with (Some s ∷ os) k d = grind (arith, nat_tests, first_with os k d)
 
--- a number that is a job's, and its number
-pub given_some : (k : ℕ) → (k ≡ 0 → ⊥) → given k ≡ Some k
-given_some k d = grind (arith, nat_tests)
-
 -- the numbers above n are those of the jobs above n, and none of them is 0
 above_n : (n : ℕ) (slots : List (Option Slot)) → filter_map (above n) slots ≡ filter (ltb n) (numbers_in slots)
 above_n n [] = refl
