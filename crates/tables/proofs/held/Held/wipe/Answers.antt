@@ -1,4 +1,4 @@
-use Rattle.std.proofs.Common.{◌≡◌, ℕ, ◌+◌, ◌<◌, ◌≤◌, List, length, set, replicate, sym, ap, ◌∙◌, subst, arith}
+use Rattle.std.proofs.Common.{◌≡◌, ℕ, ◌+◌, ◌<◌, ◌≤◌, List, length, set, replicate, ◌∙◌, arith}
 use Rattle.std.proofs.lemmas.List.{set-set}
 use Rattle.tables.specs.Grids.{cell, with_cell}
 use Rattle.tables.specs.declared.seat.Seat.{Seat}
@@ -14,12 +14,11 @@ module _ (start : List (List ℕ)) (t t' : Held) (seat : Seat) (x : ℕ) (near :
   within = omega (arith, t.modes.full, seat.within)
 
   only_more : set t'.modes.rows seat.slot (replicate 256 0) ≡ set start seat.slot (replicate 256 0)
-  only_more = ap (λ (rows : List (List ℕ)). set rows seat.slot (replicate 256 0)) step ∙ set-set t.modes.rows seat.slot _ _ ∙ only
+  only_more = rw step (set-set t.modes.rows seat.slot _ _ ∙ only)
 
   free_more : (y : ℕ) → y < x + 1 → cell 0 t'.modes.rows seat.slot y ≡ 0
   free_more =
-      subst (λ (rows : List (List ℕ)). (y : ℕ) → y < x + 1 → cell 0 rows seat.slot y ≡ 0) (sym step)
-      (wiped_more 0 t.modes.rows seat.slot x within (omega (arith, long_at 256 t.modes.rows seat.slot within t.modes.long, near)) free)
+      rw step (wiped_more 0 t.modes.rows seat.slot x within (omega (arith, long_at 256 t.modes.rows seat.slot within t.modes.long, near)) free)
 
   done : 256 ≤ x + 1 → t'.modes.rows ≡ set start seat.slot (replicate 256 0)
   done h =

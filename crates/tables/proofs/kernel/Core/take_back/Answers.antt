@@ -26,11 +26,7 @@ next :
     → now ≡ each_from 0 (swept r (λ k w. back (cell Nothing rows i k) w)) ws
     → new ≡ each_from 0 (swept (r + 1) (λ k w. back (cell Nothing rows i k) w)) ws
 next rows rows' ws now new i r e same inv =
-    let f : ℕ → ℕ → ℕ = λ k w. back (cell Nothing rows i k) w in
-    e
-    ∙ ap (λ (x : List (List Note)). set now r (back (cell Nothing x i r) (get_or now r 0))) same
-    ∙ ap (λ (xs : List ℕ). set xs r (f r (get_or xs r 0))) inv
-    ∙ sweep_more r f ws
+    rw (e, same, inv) (sweep_more r (λ k w. back (cell Nothing rows i k) w) ws)
 
 pub loop-place-preserved : goal.loop-place-preserved
 loop-place-preserved g c =
