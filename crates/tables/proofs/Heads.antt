@@ -142,9 +142,8 @@ module _ {M S : Type 0} (c : Core M S) (x : ℕ) (inside : x < 256) where
     pub all_stand : (t : ℕ) → s.stands (group_of s counts) t ≡ true → (k : ℕ) → s.stands (mode_of k) t ≡ true
     all_stand t e k =
         elim (counted_job k) [
-          | inl z ↦ ap (λ (m : ℕ). s.stands m t) z ∙ law.stands_none t
+          | inl z ↦ grind (arith, z, law.stands_none t)
           | inr r ↦
-              ap (λ (m : ℕ). s.stands m t) (sym r.2)
-              ∙ law.stands_comm (if_held counts r.0) t
-              ∙ stands_below s law 16 (if_held counts) t (law.stands_comm t (group_of s counts) ∙ e) r.0 r.1
+              let below = stands_below s law 16 (if_held counts) t (law.stands_comm t (group_of s counts) ∙ e) r.0 r.1 in
+              cc (r.2, law.stands_comm (if_held counts r.0) t, below)
         ]

@@ -70,13 +70,7 @@ view_set rows d numbers k v e l j =
 pub view_row :
     {A : Type 0} (rows : List (List A)) (d : A) (numbers : List ℕ) (k : ℕ) (row : List A) → length rows ≡ length numbers → slot numbers k < length numbers
     → (j x : ℕ) → cell d (set rows (slot numbers k) row) (slot numbers j) x ≡ put {A = ℕ → A} k (λ y. get_or row y d) (λ i y. cell d rows (slot numbers i) y) j x
-view_row {A} rows d numbers k row e l j x = ap (λ (r : List A). get_or r x d) (view_set rows [] numbers k row e l j) ∙ at_row
-  where
-    own : ℕ → List A
-    own i = get_or rows (slot numbers i) []
-
-    at_row : get_or (put k row own j) x d ≡ put {A = ℕ → A} k (λ y. get_or row y d) (λ i y. get_or (own i) y d) j x
-    at_row = grind (arith, nat_tests)
+view_row {A} rows d numbers k row e l j x = ap (λ (r : List A). get_or r x d) (view_set rows [] numbers k row e l j) ∙ grind (arith, nat_tests)
 
 -- An empty row written at the slot of job k leaves job k empty, and nobody else changed.
 pub view_wiped :
@@ -96,11 +90,7 @@ pub view_cell :
     → cell d (with_cell rows (slot numbers k) x v) (slot numbers j) y
     ≡ put {A = ℕ → A} k (put x v (cell d rows (slot numbers k))) (λ i z. cell d rows (slot numbers i) z) j y
 view_cell {A} rows d numbers k x v e l h j y =
+    let row = get_or rows (slot numbers k) [] in
     view_row rows d numbers k (set row x v) e l j y
-    ∙ ap (λ (f : ℕ → A). put {A = ℕ → A} k f (λ i z. cell d rows (slot numbers i) z) j y) (fun_ext written)
-  where
-    row : List A
-    row = get_or rows (slot numbers k) []
-
-    written : (z : ℕ) → get_or (set row x v) z d ≡ put x v (λ z. get_or row z d) z
-    written z = grind (arith, nat_tests, get_or-set_same row x v d, get_or-set_other row x z v d)
+    ∙ ap (λ (f : ℕ → A). put {A = ℕ → A} k f (λ i z. cell d rows (slot numbers i) z) j y)
+    (fun_ext (λ z. grind (arith, nat_tests, get_or-set_same row x v d h, get_or-set_other row x z v d)))
