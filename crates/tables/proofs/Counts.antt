@@ -3,7 +3,7 @@ use Rattle.std.proofs.lemmas.Bool.Decides.{nat_tests}
 use Rattle.std.proofs.Common.{◌≡◌, ℕ, zero, suc, ◌+◌, ◌<◌, Bool, true, false, cond, not, ◌||◌, eqb, leb, List, [], ◌∷◌, length, get_or, sym, refl, ap, ◌∙◌, inl, inr, arith}
 use Rattle.std.proofs.lemmas.List.{get_or_past}
 use Rattle.std.proofs.lemmas.Bool.{cases_eq, both_ways, and_parts, le-leb, lt-leb, leb-true}
-use Rattle.granules.specs.Below.{count_below}
+use Rattle.granules.specs.Below.{count_below, sum_below}
 use Rattle.granules.specs.Paths.{among}
 use Rattle.granules.proofs.Below.{sum_none, count_le}
 use Rattle.ledger.specs.declared.job.Status.TheVariants.{Ended}
@@ -18,9 +18,10 @@ use Rattle.tables.proofs.Views.{slot_among}
 use Rattle.tables.proofs.Sitting.{numbers_full, free_at}
 
 -- the first counted apart
-pub count_front : (m : ℕ) (q : ℕ → Bool) → count_below (suc m) q ≡ cond (q 0) 1 0 + count_below m (λ i. q (suc i))
-count_front zero q = omega arith
-count_front (suc m) q = omega (arith, count_front m q)
+pub sum_front :
+    (m : ℕ) (q : ℕ → Bool) (f : ℕ → ℕ) → sum_below (suc m) q f ≡ cond (q 0) (f 0) 0 + sum_below m (λ i. q (suc i)) (λ i. f (suc i))
+sum_front zero q f = omega arith
+sum_front (suc m) q f = omega (arith, sum_front m q f)
 
 count_ext : (n : ℕ) (p q : ℕ → Bool) → ((k : ℕ) → k < n → p k ≡ q k) → count_below n p ≡ count_below n q
 count_ext zero p q h = refl
@@ -56,7 +57,7 @@ seat_count (x ∷ xs) n q apart given h =
     let ps = and_parts (eqb x 0 || not (among x xs)) (distinct xs) apart in
     let gs = and_parts (leb x n) (all_given n xs) given in
     let rest = seat_count xs n (λ i. q (suc i)) ps.1 gs.1 (λ i e. h (suc i) e) in
-    let front = count_front (length xs) q in
+    let front = sum_front (length xs) q (λ _. 1) in
     elim (cases_eq x 0) [
       | inl z ↦ grind (arith, rest, front, h 0 z, count_ext (suc n) p p' (λ k l. agree k (λ some e. some (sym e ∙ z))))
       | inr z ↦

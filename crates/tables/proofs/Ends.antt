@@ -13,7 +13,7 @@ use Rattle.tables.specs.declared.held.Held.{Held}
 use Rattle.tables.specs.declared.grid.Grid.{Grid}
 use Rattle.tables.specs.declared.seats.Seats.{Seats}
 use Rattle.tables.specs.Ends.{with_one_more, without_job}
-use Rattle.tables.specs.Grids.{cell, is_nothing}
+use Rattle.tables.specs.Grids.{cell}
 use Rattle.tables.specs.Seats.{slot, distinct}
 use Rattle.tables.specs.Views.{whole, numbers_of, states_of}
 use Rattle.tables.proofs.Places.{place_set_other, place_set_new, among_gone, new_among, place_among}
@@ -73,15 +73,12 @@ end_view ws seats seats' held held' noted noted' k l n s o h t =
     let within : slot numbers k < length numbers = omega (arith, full) in
     model_eq (whole ws seats' held' noted') (without_job k (whole ws seats held noted)) o
     (λ j.
-    ap₂ (λ (ns : List ℕ) (ss : List Status). get_or ss (slot ns j) Ended) n s
-    ∙ view_left numbers k seats.apart within (states_of seats) Ended Ended ((states_full seats) ∙ sym full) j)
+    rw (n, s) (view_left numbers k seats.apart within (states_of seats) Ended Ended ((states_full seats) ∙ sym full) j))
     (λ j x.
-    ap₂ (λ (ns : List ℕ) (rows : List (List ℕ)). cell 0 rows (slot ns j) x) n h
-    ∙ view_left_row numbers k seats.apart within held.modes.rows 0 (replicate 256 0) (held.modes.full ∙ sym full) j x)
+    rw (n, h) (view_left_row numbers k seats.apart within held.modes.rows 0 (replicate 256 0) (held.modes.full ∙ sym full) j x))
     refl
     (λ j r.
-    ap₂ (λ (ns : List ℕ) (rows : List (List Note)). cell Nothing rows (slot ns j) r) n t
-    ∙ view_left_row numbers k seats.apart within noted.rows Nothing (replicate 256 Nothing) (noted.full ∙ sym full) j r)
+    rw (n, t) (view_left_row numbers k seats.apart within noted.rows Nothing (replicate 256 Nothing) (noted.full ∙ sym full) j r))
 
 -- A new number sits down in a free slot.
 module _ (numbers : List ℕ) (i n : ℕ) (l : i < length numbers) (vacant : get_or numbers i 0 ≡ 0) (some : n ≡ 0 → ⊥) (new : among n numbers ≡ false) where
@@ -92,8 +89,6 @@ module _ (numbers : List ℕ) (i n : ℕ) (l : i < length numbers) (vacant : get
   old_slot j d = grind (arith, nat_tests, length-set numbers i n, place_set_other numbers i n j, vacant)
 
   -- nobody has the free slot
-  not_there : (j : ℕ) → slot numbers j ≡ i → ⊥
-  not_there j e = grind (arith, slot_number numbers j, vacant)
 
   view_sat : (states : List Status) → length states ≡ length numbers → (st : Status) → (j : ℕ)
       → get_or (set states i st) (slot (set numbers i n) j) Ended ≡ put n st (λ k. get_or states (slot numbers k) Ended) j
@@ -104,7 +99,8 @@ module _ (numbers : List ℕ) (i n : ℕ) (l : i < length numbers) (vacant : get
         new_slot,
         get_or-set_same states i st Ended,
         old_slot j,
-        not_there j,
+        slot_number numbers j,
+        vacant,
         get_or-set_other states i (slot numbers j) st Ended,
       )
 
@@ -134,12 +130,9 @@ open_view words c seats' i l vacant n s o =
     ∙ view_sat numbers i next within vacant some new (states_of c.seats) ((states_full c.seats) ∙ sym full) Working j
     ∙ ap (λ (k : ℕ). put k Working (λ k. get_or (states_of c.seats) (slot numbers k) Ended) j) is)
     (λ j x.
-    ap (λ (ns : List ℕ). cell 0 c.held.modes.rows (slot ns j) x) n
-    ∙ view_still numbers i next within vacant some new c.held.modes.rows 0 (c.held.modes.full ∙ sym full) (λ y. c.unlocked i y vacant) j x)
+    rw n (view_still numbers i next within vacant some new c.held.modes.rows 0 (c.held.modes.full ∙ sym full) (λ y. c.unlocked i y vacant) j x))
     refl
     (λ j r.
-    ap (λ (ns : List ℕ). cell Nothing c.noted.rows (slot ns j) r) n
-    ∙ view_still numbers i next within vacant some new c.noted.rows Nothing (c.noted.full ∙ sym full) (λ y. nothing (cell Nothing c.noted.rows i y) (c.unnoted i y vacant)) j r)
-  where
-    nothing : (m : Note) → is_nothing m ≡ true → m ≡ Nothing
-    nothing m e = grind (arith, nat_tests, e)
+    rw n
+    (view_still numbers i next within vacant some new c.noted.rows Nothing (c.noted.full ∙ sym full)
+    (λ y. grind (arith, nat_tests, c.unnoted i y vacant)) j r))

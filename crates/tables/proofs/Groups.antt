@@ -15,22 +15,14 @@ group_is s js g (suc n) = ap (λ (m : ℕ). s.join m (js.mode n g)) (group_is s 
 abbrev pub Found : ℕ → (ℕ → ℕ) → ℕ → Type 0
 Found m h v = (v ≡ 0) ⊎ ((i : ℕ) × (i < m) × (h i ≡ v))
 
-clip_within : (count a : ℕ) → 0 < count → clipped count a < count
-clip_within count a l = omega arith
-
-clip_twice : (count a : ℕ) → clipped count (clipped count a) ≡ clipped count a
-clip_twice count a = omega arith
-
 module _ (s : System) (law : Lawful s) where
   -- a mode joined twice is joined once
   twice : (a b : ℕ) → s.join (s.join a b) b ≡ s.join a b
   twice a b =
       let c = clipped s.count b in
-      law.join_assoc a b b
-      ∙ ap (s.join a) (law.join_clips b b ∙ law.join_same c (clip_within s.count b law.some_modes))
-      ∙ law.join_clips a c
-      ∙ ap (s.join (clipped s.count a)) (clip_twice s.count b)
-      ∙ sym (law.join_clips a b)
+      let within : c < s.count = omega (arith, law.some_modes) in
+      let once : clipped s.count c ≡ c = omega arith in
+      grind (arith, law.join_assoc a b b, law.join_clips b b, law.join_same c within, law.join_clips a c, once, law.join_clips a b)
 
   within : (n : ℕ) (f : ℕ → ℕ) → join_below s n f < s.count
   within zero f = law.some_modes

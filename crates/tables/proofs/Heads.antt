@@ -13,7 +13,7 @@ use Rattle.tables.specs.Grids.{cell}
 use Rattle.tables.specs.Heads.{one, tally, if_held, group_of}
 use Rattle.tables.specs.Seats.{slot}
 use Rattle.tables.specs.Views.{jobs_of, numbers_of}
-use Rattle.tables.proofs.Counts.{count_front, seat_count}
+use Rattle.tables.proofs.Counts.{sum_front, seat_count}
 use Rattle.tables.proofs.Grids.{long_at}
 use Rattle.tables.proofs.Groups.{Found, group_is, same_join, stands_below}
 use Rattle.tables.proofs.Places.{among_at}
@@ -24,10 +24,6 @@ use Rattle.tables.proofs.Sitting.{numbers_full}
 -- the sum of f below n
 abbrev all_below : ℕ → (ℕ → ℕ) → ℕ
 all_below n f = sum_below n (λ _. true) f
-
-all_front : (n : ℕ) (f : ℕ → ℕ) → all_below (suc n) f ≡ f 0 + all_below n (λ i. f (suc i))
-all_front zero f = omega arith
-all_front (suc n) f = omega (arith, all_front n f)
 
 all_ext : (n : ℕ) (f h : ℕ → ℕ) → ((k : ℕ) → f k ≡ h k) → all_below n f ≡ all_below n h
 all_ext zero f h e = refl
@@ -44,7 +40,7 @@ all_none (suc n) = omega (arith, all_none n)
 -- a list added up is the sum over its places
 sum_all : (xs : List ℕ) → sum xs ≡ all_below (length xs) (λ m. get_or xs m 0)
 sum_all [] = refl
-sum_all (x ∷ xs) = sum_by-cons (λ (y : ℕ). y) x xs ∙ ap (λ (n : ℕ). x + n) (sum_all xs) ∙ sym (all_front (length xs) (λ m. get_or (x ∷ xs) m 0))
+sum_all (x ∷ xs) = sum_by-cons (λ (y : ℕ). y) x xs ∙ ap (λ (n : ℕ). x + n) (sum_all xs) ∙ sym (sum_front (length xs) (λ _. true) (λ m. get_or (x ∷ xs) m 0))
 
 -- one holder is counted at its mode alone
 one_below : (n h : ℕ) → n ≤ h → all_below n (one h) ≡ 0
@@ -70,7 +66,7 @@ tally_all (row ∷ rows) n x h =
       arith,
       one_all n (get_or row x 0) (h 0 (omega arith)),
       tally_all rows n x (λ i l. h (suc i) (omega arith)),
-      count_front (length rows) (λ i. not (eqb (cell 0 (row ∷ rows) i x) 0)),
+      sum_front (length rows) (λ i. not (eqb (cell 0 (row ∷ rows) i x) 0)) (λ _. 1),
     )
 
 module _ {M S : Type 0} (c : Core M S) (x : ℕ) (inside : x < 256) where

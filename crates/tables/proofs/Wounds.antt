@@ -1,6 +1,6 @@
 -- Jobs wounded one after the other, the oldest first, are wounded as the model has it.
 use Rattle.std.proofs.lemmas.Bool.Decides.{nat_tests}
-use Rattle.std.proofs.Common.{◌≡◌, ℕ, zero, suc, ◌<◌, ◌≤◌, Bool, true, false, ◌&&◌, eqb, ltb, List, length, get_or, set, replicate, sym, refl, ap, ◌∙◌, ap₂, inl, inr, arith}
+use Rattle.std.proofs.Common.{◌≡◌, ℕ, zero, suc, ◌<◌, ◌≤◌, Bool, true, false, ◌&&◌, eqb, ltb, List, length, set, replicate, sym, refl, ap, ◌∙◌, ap₂, inl, inr, arith}
 use mathlib.Core.Path.{fun_ext}
 use Rattle.std.proofs.lemmas.Bool.{cases_eq}
 use Rattle.ledger.specs.declared.job.Note.{Note}
@@ -9,7 +9,6 @@ use Rattle.ledger.specs.declared.job.Status.{Status}
 use Rattle.ledger.specs.declared.job.Status.TheVariants.{Wounded, Ended}
 use Rattle.ledger.specs.Jobs.{where_so, wound_jobs}
 use Rattle.ledger.specs.Models.{Model, model_hands, taken_back, all_taken_back}
-use Rattle.ledger.proofs.Wounds.{where_false}
 use Rattle.tables.specs.declared.kernel.Core.{Core}
 use Rattle.tables.specs.Grids.{cell}
 use Rattle.tables.specs.Seats.{slot}
@@ -44,15 +43,12 @@ wound_view words c c' k l w n s o h t =
     let within : slot numbers k < length numbers = omega (arith, full) in
     model_eq (model words c') (wounded_one k (model words c)) o
     (λ j.
-    ap₂ (λ (ns : List ℕ) (ss : List Status). get_or ss (slot ns j) Ended) n s
-    ∙ view_set (states_of c.seats) Ended numbers k Wounded ((states_full c.seats) ∙ sym full) within j)
+    rw (n, s) (view_set (states_of c.seats) Ended numbers k Wounded ((states_full c.seats) ∙ sym full) within j))
     (λ j x.
-    ap₂ (λ (ns : List ℕ) (rows : List (List ℕ)). cell 0 rows (slot ns j) x) n h
-    ∙ view_wiped c.held.modes.rows 0 numbers k (c.held.modes.full ∙ sym full) within j x)
+    rw (n, h) (view_wiped c.held.modes.rows 0 numbers k (c.held.modes.full ∙ sym full) within j x))
     w
     (λ j r.
-    ap₂ (λ (ns : List ℕ) (rows : List (List Note)). cell Nothing rows (slot ns j) r) n t
-    ∙ view_wiped c.noted.rows Nothing numbers k (c.noted.full ∙ sym full) within j r)
+    rw (n, t) (view_wiped c.noted.rows Nothing numbers k (c.noted.full ∙ sym full) within j r))
 
 -- those below n that the test picks
 abbrev pub upto : (ℕ → Bool) → ℕ → ℕ → Bool
@@ -66,9 +62,6 @@ abbrev pub wounded_upto : (ℕ → Bool) → ℕ → Model → Model
 wounded_upto p n m = wounded_as m (upto p n) (all_taken_back p m.notes n m.words)
 
 module _ (p : ℕ → Bool) where
-  pub upto_here : (n : ℕ) → upto p n n ≡ false
-  upto_here n = grind (arith, nat_tests)
-
   -- where the test picks nobody one may go on
   upto_skip : (n m : ℕ) → n ≤ m → ((k : ℕ) → n ≤ k → k < m → p k ≡ false) → (k : ℕ) → upto p n k ≡ upto p m k
   upto_skip n m l h k = grind (arith, nat_tests, h k)
@@ -99,8 +92,7 @@ module _ (p : ℕ → Bool) where
       model_eq (wounded_one n (wounded_upto p n m)) (wounded_upto p (suc n) m) refl
       (λ k. over Wounded m.jobs.status k)
       (λ k x. ap (λ (f : ℕ → ℕ). f x) (over (λ _. 0) m.jobs.mode k))
-      (ap (λ (f : ℕ → Note). taken_back f (all_taken_back p m.notes n m.words)) (where_false (upto p n) (λ _. Nothing) m.notes n (upto_here n))
-      ∙ sym (rw (q, all_taken_back)))
+      (grind (arith, nat_tests, q))
       (λ k r. ap (λ (f : ℕ → Note). f r) (over (λ _. Nothing) m.notes k))
     where
       over : {A : Type 0} (a : A) (f : ℕ → A) (k : ℕ) → where_so (λ j. eqb j n) a (where_so (upto p n) a f) k ≡ where_so (upto p (suc n)) a f k
