@@ -89,8 +89,6 @@ module _ (seats : Seats) (held : Held) where
       seat_count (numbers_of seats) seats.opened lives seats.apart seats.known (λ i e. grind (arith, nat_tests, free_at seats i))
       ∙ ap (λ (n : ℕ). count_below n lives) (numbers_full seats)
 
-  -- where somebody sits, nobody has ended
-
   pub all_taken : place (numbers_of seats) 0 ≡ 16 → leb 16 (unended (jobs_of seats held)) ≡ true
   all_taken e =
       let numbers = numbers_of seats in

@@ -21,8 +21,6 @@ use Rattle.tables.proofs.Views.{slot_number, slot_own}
 use Rattle.tables.proofs.Wounds.{model_eq}
 use Rattle.tables.proofs.Sitting.{numbers_full, states_full}
 
--- the slot of a job that is not touched by a write
-
 -- whoever sits nowhere has no slot of the table
 slot_gone : (numbers : List ℕ) (k : ℕ) → among k numbers ≡ false → length numbers ≤ slot numbers k
 slot_gone numbers k e = grind (arith, nat_tests, place_among numbers k)
@@ -87,8 +85,6 @@ module _ (numbers : List ℕ) (i n : ℕ) (l : i < length numbers) (vacant : get
 
   old_slot : (j : ℕ) → (j ≡ n → ⊥) → slot (set numbers i n) j ≡ slot numbers j
   old_slot j d = grind (arith, nat_tests, length-set numbers i n, place_set_other numbers i n j, vacant)
-
-  -- nobody has the free slot
 
   view_sat : (states : List Status) → length states ≡ length numbers → (st : Status) → (j : ℕ)
       → get_or (set states i st) (slot (set numbers i n) j) Ended ≡ put n st (λ k. get_or states (slot numbers k) Ended) j

@@ -1,5 +1,5 @@
 -- The first place of a number in a list, and lists whose numbers are apart and given.
-use Rattle.std.proofs.Common.{◌≡◌, ℕ, zero, suc, ◌<◌, ◌≤◌, true, false, ltb, List, [], ◌∷◌, length, get_or, set, fold, min, Some, sym, refl, ap, ◌∙◌, subst, inl, inr, arith}
+use Rattle.std.proofs.Common.{◌≡◌, ℕ, zero, suc, ◌<◌, ◌≤◌, true, false, ltb, List, [], ◌∷◌, length, get_or, set, fold, min, Some, refl, inl, inr, arith}
 use Rattle.std.proofs.lemmas.List.{get_or_past}
 use Rattle.std.proofs.lemmas.Option.{none-some}
 use Rattle.std.proofs.lemmas.Bool.{cases_lt, lt-ltb, le-ltb, both_ways}
@@ -7,24 +7,6 @@ use Rattle.std.proofs.lemmas.Bool.Decides.{nat_tests}
 use Rattle.granules.specs.Paths.{among}
 use Rattle.std.specs.List.{filter, reduce}
 use Rattle.tables.specs.Seats.{place, distinct, all_given, next_above}
-
-pub place_here : (x : ℕ) (xs : List ℕ) (k : ℕ) → x ≡ k → place (x ∷ xs) k ≡ 0
-place_here x xs k e = grind (arith, nat_tests)
-
-pub place_later : (x : ℕ) (xs : List ℕ) (k : ℕ) → (x ≡ k → ⊥) → place (x ∷ xs) k ≡ suc (place xs k)
-place_later x xs k e = grind (arith, nat_tests)
-
--- a number that stands at i, and at no place before, has its first place there
-pub place_found :
-    (xs : List ℕ) (k i : ℕ) → i < length xs → get_or xs i 0 ≡ k → ((j : ℕ) → j < i → get_or xs j 0 ≡ k → ⊥) → place xs k ≡ i
-place_found [] k i l e n = absurd (omega arith)
-place_found (x ∷ xs) k zero l e n = place_here x xs k e
-place_found (x ∷ xs) k (suc i) l e n = grind (arith, nat_tests, n 0 (omega arith), place_found xs k i (omega arith) e (λ j h. n (suc j) (omega arith)))
-
--- one that stands nowhere has none
-pub place_none : (xs : List ℕ) (k : ℕ) → ((j : ℕ) → j < length xs → get_or xs j 0 ≡ k → ⊥) → place xs k ≡ length xs
-place_none [] k n = refl
-place_none (x ∷ xs) k n = place_later x xs k (n 0 (omega arith)) ∙ ap suc (place_none xs k (λ j h. n (suc j) (omega arith)))
 
 -- what stands at the first place
 pub place_at : (xs : List ℕ) (k : ℕ) → place xs k < length xs → get_or xs (place xs k) 0 ≡ k
@@ -141,7 +123,7 @@ among_at (x ∷ xs) (suc i) l = grind (arith, nat_tests, among_at xs i)
 -- a number that is apart from the others has its first place where it stands
 pub place_own : (xs : List ℕ) (i : ℕ) → i < length xs → distinct xs ≡ true → (get_or xs i 0 ≡ 0 → ⊥) → place xs (get_or xs i 0) ≡ i
 place_own [] i l e d = absurd (omega arith)
-place_own (x ∷ xs) zero l e d = place_here x xs x refl
+place_own (x ∷ xs) zero l e d = grind (arith, nat_tests)
 place_own (x ∷ xs) (suc i) l e d = grind (arith, nat_tests, place_own xs i, among_at xs i)
 
 -- a number written at a place: the first places of others stay
@@ -154,18 +136,11 @@ place_set_other (x ∷ xs) (suc i) v k d e = grind (arith, nat_tests, place_set_
 -- and a new number has its first place there
 pub place_set_new : (xs : List ℕ) (i v : ℕ) → i < length xs → among v xs ≡ false → place (set xs i v) v ≡ i
 place_set_new [] i v l e = absurd (omega arith)
-place_set_new (x ∷ xs) zero v l e = place_here v xs v refl
+place_set_new (x ∷ xs) zero v l e = grind (arith, nat_tests)
 place_set_new (x ∷ xs) (suc i) v l e = grind (arith, nat_tests, place_set_new xs i v)
 
 -- a number whose only place is written over is gone
 pub among_gone : (xs : List ℕ) (i k : ℕ) → (k ≡ 0 → ⊥) → distinct xs ≡ true → get_or xs i 0 ≡ k → among k (set xs i 0) ≡ false
 among_gone [] i k d a e = refl
 among_gone (x ∷ xs) zero k d a e = grind (arith, nat_tests)
-among_gone (x ∷ xs) (suc i) k d a e =
-    let found : among k xs ≡ true =
-    elim (cases_lt i (length xs)) [
-      | inl l ↦ subst (λ (n : ℕ). among n xs ≡ true) e (among_at xs i l)
-      | inr l ↦ absurd (d (sym e ∙ get_or_past xs i 0 l))
-    ]
-    in
-    grind (arith, nat_tests, found, among_gone xs i k d)
+among_gone (x ∷ xs) (suc i) k d a e = grind (arith, nat_tests, among_at xs i, get_or_past xs i 0, among_gone xs i k d)

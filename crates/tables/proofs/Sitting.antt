@@ -104,10 +104,3 @@ seated_at i k h = (grind (arith, nat_tests), grind (arith, nat_tests))
 
 pub seated_none : (i : ℕ) → None ≡ seated i → 16 ≤ i
 seated_none i h = grind (arith, nat_tests)
-
--- a job's number is not 0
-pub given_at : (i k : ℕ) → Some k ≡ given i → (i ≡ 0 → ⊥) × (i ≡ k)
-given_at i k h = (λ e. grind (arith, nat_tests), grind (arith, nat_tests))
-
-pub given_back : (i : ℕ) → unwrap_or (given i) 0 ≡ i
-given_back i = grind (arith, nat_tests)

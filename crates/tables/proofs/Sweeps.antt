@@ -2,7 +2,6 @@
 use Rattle.std.proofs.lemmas.Bool.Decides.{nat_tests}
 use Rattle.std.proofs.Common.{◌≡◌, ℕ, ◌+◌, ◌<◌, ◌≤◌, cond, ltb, List, [], length, get_or, set, refl, arith}
 use Rattle.std.proofs.lemmas.List.{get_or-set_same, get_or-set_other, set-set}
-use Rattle.std.proofs.lemmas.Bool.{cond-true, lt-ltb}
 use Rattle.tables.specs.Grids.{cell, with_cell}
 use Rattle.tables.proofs.Grids.{own_cell}
 
@@ -10,12 +9,6 @@ module _ {A : Type 0} (d : A) (s : ℕ) (f old : ℕ → A) where
   -- the cells before p are changed, the others not yet
   abbrev pub Swept : ℕ → List (List A) → Type 0
   Swept p rows = (r : ℕ) → cell d rows s r ≡ cond (ltb r p) (f r) (old r)
-
-  done : (p r : ℕ) → r < p → cond (ltb r p) (f r) (old r) ≡ f r
-  done p r l = cond-true (ltb r p) (f r) (old r) (lt-ltb r p l)
-
-  pub not_yet : (p r : ℕ) → p ≤ r → cond (ltb r p) (f r) (old r) ≡ old r
-  not_yet p r l = grind (arith, nat_tests)
 
   -- before the first cell that changes
   pub swept_from : (rows : List (List A)) (p : ℕ) → ((r : ℕ) → cell d rows s r ≡ old r) → ((r : ℕ) → r < p → f r ≡ old r) → Swept p rows

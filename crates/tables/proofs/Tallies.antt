@@ -1,6 +1,6 @@
 -- Counts of those who hold a mode.
 use Rattle.std.proofs.lemmas.Bool.Decides.{nat_tests}
-use Rattle.std.proofs.Common.{◌≡◌, ℕ, zero, suc, ◌+◌, ◌<◌, ◌≤◌, true, List, [], ◌∷◌, length, get_or, set, replicate, sym, refl, ap, ◌∙◌, inl, inr, arith}
+use Rattle.std.proofs.Common.{◌≡◌, ℕ, zero, suc, ◌+◌, ◌<◌, ◌≤◌, true, List, [], ◌∷◌, length, get_or, set, replicate, sym, refl, ◌∙◌, inl, inr, arith}
 use Rattle.std.proofs.lemmas.List.{get_or-set_same, get_or-set_other, get_or_past}
 use Rattle.std.proofs.lemmas.Bool.{cases_eq}
 use Rattle.tables.specs.Grids.{all_long, cell, with_cell}
@@ -14,13 +14,10 @@ one_same h m e some = grind (arith, nat_tests)
 pub one_none : (m : ℕ) → one 0 m ≡ 0
 one_none m = grind (arith, nat_tests)
 
-one_le : (h m : ℕ) → one h m ≤ 1
-one_le h m = grind (arith, nat_tests)
-
 -- at most one a slot
 pub tally_le : (rows : List (List ℕ)) (x m : ℕ) → tally rows x m ≤ length rows
 tally_le [] x m = omega arith
-tally_le (row ∷ rows) x m = omega (arith, one_le (get_or row x 0) m, tally_le rows x m)
+tally_le (row ∷ rows) x m = grind (arith, nat_tests, tally_le rows x m)
 
 -- who holds a mode is counted
 tally_has : (rows : List (List ℕ)) (s x m : ℕ) → s < length rows → one (cell 0 rows s x) m ≤ tally rows x m
@@ -39,7 +36,7 @@ tally_some (row ∷ rows) x m l =
 
 tally_blank : (n : ℕ) (x m : ℕ) → tally (replicate n (replicate 256 0)) x m ≡ 0
 tally_blank zero x m = refl
-tally_blank (suc n) x m = omega (arith, ap (λ (h : ℕ). one h m) (empty 256 0 x), one_none m, tally_blank n x m)
+tally_blank (suc n) x m = let blank = empty {A = ℕ} 256 0 x in grind (arith, nat_tests, blank, tally_blank n x m)
 
 -- One row written for another.
 tally_set :

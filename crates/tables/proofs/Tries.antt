@@ -41,8 +41,6 @@ module _ (s : System) (w : Walker) where
   abbrev state : Walked Model → Status
   state r = r.left.jobs.status w.job
 
-  -- nobody gives way to itself
-
   -- A walk leaves the state of the job that walks.
   walk_own : (xs : List ℕ) (m : Model) → state (walk_on s w xs m) ≡ m.jobs.status w.job
   walk_own [] m = refl
