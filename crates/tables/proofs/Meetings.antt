@@ -90,10 +90,8 @@ module _ (s : System) (law : Lawful s) {M S : Type 0} (words : S → List ℕ) (
       ap (λ (h : ℕ). wounded_if (must_give_way (judge s a t job h)) job (model words c')) own
       ∙ ap (wounded_if (in_way job) job) here
       ∙ elim (cases_Bool (in_way job)) [
-        | inl e ↦ ap (λ (b : Bool). wounded_if b job (wounded_upto in_way job m)) e ∙ one in_way m job e
-        | inr e ↦
-            ap (λ (b : Bool). wounded_if b job (wounded_upto in_way job m)) e
-            ∙ skip in_way m job (suc job) (omega arith) (λ k l h. let here : k ≡ job = omega arith in ap in_way here ∙ e)
+        | inl e ↦ rw e (one in_way m job e)
+        | inr e ↦ rw e (skip in_way m job (suc job) (omega arith) (λ k l h. let here : k ≡ job = omega arith in ap in_way here ∙ e))
       ]
 
   pub again : (c' c'' : Core M S) (job : ℕ) → (job ≡ 0 → ⊥) → Reached c' job → (numbers_of c''.seats) ≡ (numbers_of c'.seats)
