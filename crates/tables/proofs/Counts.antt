@@ -1,8 +1,9 @@
 -- Jobs counted by their numbers are the slots counted one by one.
-use Rattle.std.proofs.Common.{◌≡◌, ℕ, zero, suc, ◌+◌, ◌<◌, ◌≤◌, Bool, true, false, cond, not, ◌||◌, eqb, leb, List, [], ◌∷◌, length, get_or, sym, refl, ap, ◌∙◌, subst, inl, inr, arith}
+use Rattle.std.proofs.lemmas.Bool.Decides.{nat_tests}
+use Rattle.std.proofs.Common.{◌≡◌, ℕ, zero, suc, ◌+◌, ◌<◌, Bool, true, false, cond, not, ◌||◌, eqb, leb, List, [], ◌∷◌, length, get_or, sym, refl, ap, ◌∙◌, inl, inr, arith}
 use Rattle.std.proofs.lemmas.List.{get_or_past}
-use Rattle.std.proofs.lemmas.Bool.{cases_eq, cases_lt, both_ways, and_parts, or_cases, not-true, not_from_true, not_from_false, cond-true, cond-false, le-leb, lt-leb, leb-true, eq-eqb, ne_eqb, eqb-true}
-use Rattle.granules.specs.Below.{count_below}
+use Rattle.std.proofs.lemmas.Bool.{cases_eq, both_ways, and_parts, le-leb, lt-leb, leb-true}
+use Rattle.granules.specs.Below.{count_below, sum_below}
 use Rattle.granules.specs.Paths.{among}
 use Rattle.granules.proofs.Below.{sum_none, count_le}
 use Rattle.ledger.specs.declared.job.Status.TheVariants.{Ended}
@@ -12,21 +13,19 @@ use Rattle.tables.specs.declared.held.Held.{Held}
 use Rattle.tables.specs.declared.seats.Seats.{Seats}
 use Rattle.tables.specs.Seats.{place, slot, distinct, all_given}
 use Rattle.tables.specs.Views.{jobs_of, numbers_of, states_of}
-use Rattle.tables.proofs.Places.{place_here, place_later, place_at, among_at, among_place}
-use Rattle.tables.proofs.Views.{slot_none, slot_some, slot_among}
+use Rattle.tables.proofs.Places.{place_at, among_at, among_place}
+use Rattle.tables.proofs.Views.{slot_among}
 use Rattle.tables.proofs.Sitting.{numbers_full, free_at}
 
 -- the first counted apart
-pub count_front : (m : ℕ) (q : ℕ → Bool) → count_below (suc m) q ≡ cond (q 0) 1 0 + count_below m (λ i. q (suc i))
-count_front zero q = omega arith
-count_front (suc m) q = omega (arith, count_front m q)
+pub sum_front :
+    (m : ℕ) (q : ℕ → Bool) (f : ℕ → ℕ) → sum_below (suc m) q f ≡ cond (q 0) (f 0) 0 + sum_below m (λ i. q (suc i)) (λ i. f (suc i))
+sum_front zero q f = omega arith
+sum_front (suc m) q f = omega (arith, sum_front m q f)
 
 count_ext : (n : ℕ) (p q : ℕ → Bool) → ((k : ℕ) → k < n → p k ≡ q k) → count_below n p ≡ count_below n q
 count_ext zero p q h = refl
-count_ext (suc n) p q h =
-    let rest = count_ext n p q (λ k l. h k (omega arith)) in
-    let last = ap (λ (b : Bool). cond {A = ℕ} b 1 0) (h n (omega arith)) in
-    omega arith
+count_ext (suc n) p q h = grind (arith, h n (omega arith), count_ext n p q (λ k l. h k (omega arith)))
 
 -- two tests that differ at one place only
 count_one :
@@ -35,36 +34,17 @@ count_one :
 count_one zero p q x l e h = absurd (omega arith)
 count_one (suc n) p q x l e h =
     elim (cases_eq x n) [
-      | inl z ↦
-          let rest = count_ext n p q (λ k m. h k (λ (y : k ≡ x). omega arith)) in
-          let here = ap (λ (j : ℕ). cond {A = ℕ} (p j) 1 0) z in
-          let none : cond {A = ℕ} (q n) 1 0 ≡ 0 = cond-false (q n) 1 0 (ap q (sym z) ∙ e) in
-          omega arith
-      | inr z ↦
-          let rest = count_one n p q x (omega arith) e h in
-          let last = ap (λ (b : Bool). cond {A = ℕ} b 1 0) (h n (λ (y : n ≡ x). z (sym y))) in
-          omega arith
+      | inl z ↦ grind (arith, e, count_ext n p q (λ k m. h k (λ (y : k ≡ x). omega arith)))
+      | inr z ↦ grind (arith, h n (λ (y : n ≡ x). z (sym y)), count_one n p q x (omega arith) e h)
     ]
 
 count_all : (n : ℕ) (f : ℕ → Bool) → ((k : ℕ) → k < n → f k ≡ true) → count_below n f ≡ n
 count_all zero f h = refl
-count_all (suc n) f h =
-    let last : cond {A = ℕ} (f n) 1 0 ≡ 1 = cond-true (f n) 1 0 (h n (omega arith)) in
-    omega (arith, count_all n f (λ k l. h k (omega arith)))
+count_all (suc n) f h = grind (arith, h n (omega arith), count_all n f (λ k l. h k (omega arith)))
 
 count_lacks : (n : ℕ) (f : ℕ → Bool) (k : ℕ) → k < n → f k ≡ false → count_below n f < n
 count_lacks zero f k l e = absurd (omega arith)
-count_lacks (suc n) f k l e =
-    elim (cases_eq k n) [
-      | inl z ↦
-          let last : cond {A = ℕ} (f n) 1 0 ≡ 0 = cond-false (f n) 1 0 (ap f (sym z) ∙ e) in
-          omega (arith, count_le n f)
-      | inr z ↦ omega (arith, count_lacks n f k (omega arith) e, one (f n))
-    ]
-  where
-    one : (b : Bool) → cond {A = ℕ} b 1 0 ≤ 1
-    one true = omega arith
-    one false = omega arith
+count_lacks (suc n) f k l e = grind (arith, nat_tests, count_le n f, count_lacks n f k)
 
 -- Whoever sits in a slot of which a test passes is counted once, by number or by slot.
 pub seat_count :
@@ -77,20 +57,14 @@ seat_count (x ∷ xs) n q apart given h =
     let ps = and_parts (eqb x 0 || not (among x xs)) (distinct xs) apart in
     let gs = and_parts (leb x n) (all_given n xs) given in
     let rest = seat_count xs n (λ i. q (suc i)) ps.1 gs.1 (λ i e. h (suc i) e) in
-    let front = count_front (length xs) q in
+    let front = sum_front (length xs) q (λ _. 1) in
     elim (cases_eq x 0) [
-      | inl z ↦
-          let none : cond {A = ℕ} (q 0) 1 0 ≡ 0 = cond-false (q 0) 1 0 (h 0 z) in
-          let same = count_ext (suc n) p p' (λ k l. agree k (λ some e. some (sym e ∙ z))) in
-          omega arith
+      | inl z ↦ grind (arith, rest, front, h 0 z, count_ext (suc n) p p' (λ k l. agree k (λ some e. some (sym e ∙ z))))
       | inr z ↦
-          let gone = or_cases (eqb x 0) (not (among x xs)) ps.0 in
-          let more =
-          count_one (suc n) p p' x (omega (arith, leb-true x n gs.0))
-          (elim gone [ inl e ↦ absurd (z (eqb-true x 0 e)) | inr e ↦ missing (not-true (among x xs) e) ])
-          (λ k d. agree k (λ some e. d (sym e)))
-          in
-          omega (arith, ap (λ (i : ℕ). cond {A = ℕ} (q i) 1 0) (slot_some (x ∷ xs) x z ∙ place_here x xs x refl))
+          let gone : among x xs ≡ false = grind (arith, nat_tests, ps.0) in
+          let here : p x ≡ q 0 = grind (arith, nat_tests) in
+          let more = count_one (suc n) p p' x (omega (arith, leb-true x n gs.0)) (missing gone) (λ k d. agree k (λ some e. d (sym e))) in
+          grind (arith, rest, front, here, more)
     ]
   where
     p : ℕ → Bool
@@ -100,18 +74,10 @@ seat_count (x ∷ xs) n q apart given h =
     p' k = q (suc (slot xs k))
 
     agree : (k : ℕ) → ((k ≡ 0 → ⊥) → x ≡ k → ⊥) → p k ≡ p' k
-    agree k d =
-        elim (cases_eq k 0) [
-          | inl e ↦ ap q (slot_none (x ∷ xs) k e ∙ ap suc (sym (slot_none xs k e)))
-          | inr e ↦ ap q (slot_some (x ∷ xs) k e ∙ place_later x xs k (d e) ∙ ap suc (sym (slot_some xs k e)))
-        ]
+    agree k d = grind (arith, nat_tests, d)
 
     missing : among x xs ≡ false → p' x ≡ false
-    missing e =
-        elim (cases_lt (slot xs x) (length xs)) [
-          | inl l ↦ absurd (both_ways (among x xs) e (slot_among xs x l))
-          | inr l ↦ h (suc (slot xs x)) (get_or_past xs (slot xs x) 0 l)
-        ]
+    missing e = grind (arith, nat_tests, slot_among xs x, get_or_past xs (slot xs x) 0, h (suc (slot xs x)))
 
 -- There is a free slot just if fewer than 16 jobs have not ended.
 module _ (seats : Seats) (held : Held) where
@@ -120,31 +86,18 @@ module _ (seats : Seats) (held : Held) where
 
   seated : unended (jobs_of seats held) ≡ count_below 16 lives
   seated =
-      seat_count (numbers_of seats) seats.opened lives seats.apart seats.known
-      (λ i e. not_from_true (is_ended (get_or (states_of seats) i Ended)) (sym (free_at seats i) ∙ eq-eqb (get_or (numbers_of seats) i 0) 0 e))
+      seat_count (numbers_of seats) seats.opened lives seats.apart seats.known (λ i e. grind (arith, nat_tests, free_at seats i))
       ∙ ap (λ (n : ℕ). count_below n lives) (numbers_full seats)
-
-  -- where somebody sits, nobody has ended
-  taken : (i : ℕ) → (get_or (numbers_of seats) i 0 ≡ 0 → ⊥) → lives i ≡ true
-  taken i d =
-      not_from_false (is_ended (get_or (states_of seats) i Ended)) (sym (free_at seats i) ∙ ne_eqb (get_or (numbers_of seats) i 0) 0 d)
 
   pub all_taken : place (numbers_of seats) 0 ≡ 16 → leb 16 (unended (jobs_of seats held)) ≡ true
   all_taken e =
-      le-leb 16 (unended (jobs_of seats held))
-      (omega (arith, seated, count_all 16 lives (λ k l. taken k (λ z. nobody k l z))))
-    where
-      nobody : (k : ℕ) → k < 16 → get_or (numbers_of seats) k 0 ≡ 0 → ⊥
-      nobody k l z =
-          let numbers = (numbers_of seats) in
-          let here = subst (λ (v : ℕ). among v numbers ≡ true) z (among_at numbers k (omega (arith, (numbers_full seats)))) in
-          omega (arith, among_place numbers 0 here, e, (numbers_full seats))
+      let numbers = numbers_of seats in
+      let all =
+      count_all 16 lives (λ k l. grind (arith, nat_tests, free_at seats k, among_at numbers k, among_place numbers 0, e, numbers_full seats)) in
+      le-leb 16 (unended (jobs_of seats held)) (omega (arith, seated, all))
 
   pub one_free : place (numbers_of seats) 0 < 16 → leb 16 (unended (jobs_of seats held)) ≡ false
   one_free l =
       let i = place (numbers_of seats) 0 in
-      let zero_there = place_at (numbers_of seats) 0 (omega (arith, l, (numbers_full seats))) in
-      let gone : lives i ≡ false =
-      not_from_true (is_ended (get_or (states_of seats) i Ended)) (sym (free_at seats i) ∙ eq-eqb (get_or (numbers_of seats) i 0) 0 zero_there)
-      in
+      let gone : lives i ≡ false = grind (arith, nat_tests, free_at seats i, place_at (numbers_of seats) 0, numbers_full seats) in
       lt-leb 16 (unended (jobs_of seats held)) (omega (arith, seated, count_lacks 16 lives i l gone))

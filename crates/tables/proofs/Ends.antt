@@ -1,98 +1,63 @@
 -- Jobs that sit down and get up, as the model has it.
-use Rattle.std.proofs.Common.{◌≡◌, ℕ, suc, ◌+◌, ◌<◌, ◌≤◌, true, false, List, [], length, get_or, set, replicate, sym, refl, ap, ◌∙◌, ap₂, inl, inr, add-one, arith}
+use Rattle.std.proofs.lemmas.Bool.Decides.{nat_tests}
+use Rattle.std.proofs.Common.{◌≡◌, ℕ, suc, ◌+◌, ◌<◌, ◌≤◌, true, false, List, [], length, get_or, set, replicate, sym, refl, ap, ◌∙◌, ap₂, add-one, arith}
 use Rattle.std.proofs.lemmas.List.{get_or-set_same, get_or-set_other, get_or_past, length-set}
-use Rattle.std.proofs.lemmas.Bool.{cases_eq, cases_lt, both_ways}
 use Rattle.granules.specs.Paths.{among}
 use Rattle.ledger.specs.declared.job.Note.{Note}
 use Rattle.ledger.specs.declared.job.Note.TheVariants.{Nothing}
 use Rattle.ledger.specs.declared.job.Status.{Status}
 use Rattle.ledger.specs.declared.job.Status.TheVariants.{Working, Ended}
 use Rattle.ledger.specs.Jobs.{put}
-use Rattle.ledger.proofs.Piles.{put_at, put_other}
 use Rattle.tables.specs.declared.kernel.Core.{Core}
 use Rattle.tables.specs.declared.held.Held.{Held}
 use Rattle.tables.specs.declared.grid.Grid.{Grid}
 use Rattle.tables.specs.declared.seats.Seats.{Seats}
 use Rattle.tables.specs.Ends.{with_one_more, without_job}
-use Rattle.tables.specs.Grids.{cell, is_nothing}
+use Rattle.tables.specs.Grids.{cell}
 use Rattle.tables.specs.Seats.{slot, distinct}
 use Rattle.tables.specs.Views.{whole, numbers_of, states_of}
 use Rattle.tables.proofs.Places.{place_set_other, place_set_new, among_gone, new_among, place_among}
-use Rattle.tables.proofs.Views.{slot_none, slot_some, slot_number, slot_own}
+use Rattle.tables.proofs.Views.{slot_number, slot_own}
 use Rattle.tables.proofs.Wounds.{model_eq}
 use Rattle.tables.proofs.Sitting.{numbers_full, states_full}
 
--- the slot of a job that is not touched by a write
-slot_set_other :
-    (numbers : List ℕ) (i v k : ℕ) → (k ≡ v → ⊥) → (k ≡ get_or numbers i 0 → ⊥) → slot (set numbers i v) k ≡ slot numbers k
-slot_set_other numbers i v k d e =
-    elim (cases_eq k 0) [
-      | inl z ↦ slot_none (set numbers i v) k z ∙ length-set numbers i v ∙ sym (slot_none numbers k z)
-      | inr z ↦ slot_some (set numbers i v) k z ∙ place_set_other numbers i v k d e ∙ sym (slot_some numbers k z)
-    ]
-
 -- whoever sits nowhere has no slot of the table
 slot_gone : (numbers : List ℕ) (k : ℕ) → among k numbers ≡ false → length numbers ≤ slot numbers k
-slot_gone numbers k e =
-    elim (cases_lt (slot numbers k) (length numbers)) [
-      | inr l ↦ l
-      | inl l ↦
-          let some = (slot_number numbers k l).1 in
-          absurd (both_ways (among k numbers) e (place_among numbers k (omega (arith, slot_some numbers k some, l))))
-    ]
+slot_gone numbers k e = grind (arith, nat_tests, place_among numbers k)
 
 -- A job gets up from its slot: it has nothing there any more, and nobody else changes.
 module _ (numbers : List ℕ) (k : ℕ) (apart : distinct numbers ≡ true) (l : slot numbers k < length numbers) where
   abbrev place_of : ℕ
   place_of = slot numbers k
 
-  own_number : get_or numbers place_of 0 ≡ k
-  own_number = (slot_number numbers k l).0
-
-  some_number : k ≡ 0 → ⊥
-  some_number = (slot_number numbers k l).1
-
   gone : length numbers ≤ slot (set numbers place_of 0) k
   gone =
-      omega
-      (arith, slot_gone (set numbers place_of 0) k (among_gone numbers place_of k some_number apart own_number), length-set numbers place_of 0)
+      let n = slot_number numbers k l in
+      omega (arith, slot_gone (set numbers place_of 0) k (among_gone numbers place_of k n.1 apart n.0), length-set numbers place_of 0)
 
   others_stay : (j : ℕ) → (j ≡ k → ⊥) → slot (set numbers place_of 0) j ≡ slot numbers j
-  others_stay j d =
-      elim (cases_eq j 0) [
-        | inl z ↦ slot_none (set numbers place_of 0) j z ∙ length-set numbers place_of 0 ∙ sym (slot_none numbers j z)
-        | inr z ↦ slot_set_other numbers place_of 0 j z (λ (e : j ≡ get_or numbers place_of 0). d (e ∙ own_number))
-      ]
+  others_stay j d = grind (arith, nat_tests, length-set numbers place_of 0, place_set_other numbers place_of 0 j, slot_number numbers k l)
 
   view_left :
       {A : Type 0} (rows : List A) (d v : A) → length rows ≡ length numbers → (j : ℕ)
       → get_or (set rows place_of v) (slot (set numbers place_of 0) j) d ≡ put k d (λ i. get_or rows (slot numbers i) d) j
   view_left rows d v e j =
-      elim (cases_eq j k) [
-        | inl z ↦
-            ap (λ (i : ℕ). get_or (set rows place_of v) (slot (set numbers place_of 0) i) d) z
-            ∙ get_or_past (set rows place_of v) (slot (set numbers place_of 0) k) d (omega (arith, gone, length-set rows place_of v))
-            ∙ sym (put_at k d (λ i. get_or rows (slot numbers i) d) j z)
-        | inr z ↦
-            ap (λ (i : ℕ). get_or (set rows place_of v) i d) (others_stay j z)
-            ∙ get_or-set_other rows place_of (slot numbers j) v d (λ (y : slot numbers j ≡ place_of). z (slot_own numbers j k y l))
-            ∙ sym (put_other k d (λ i. get_or rows (slot numbers i) d) j z)
-      ]
+      grind (
+        arith,
+        nat_tests,
+        gone,
+        length-set rows place_of v,
+        get_or_past (set rows place_of v) (slot (set numbers place_of 0) k) d,
+        others_stay j,
+        get_or-set_other rows place_of (slot numbers j) v d,
+        slot_own numbers j k,
+      )
 
   -- the same, cell by cell
   view_left_row :
       {A : Type 0} (rows : List (List A)) (d : A) (row : List A) → length rows ≡ length numbers → (j x : ℕ)
       → cell d (set rows place_of row) (slot (set numbers place_of 0) j) x ≡ put {A = ℕ → A} k (λ _. d) (λ i y. cell d rows (slot numbers i) y) j x
-  view_left_row {A} rows d row e j x =
-      ap (λ (r : List A). get_or r x d) (view_left rows [] row e j)
-      ∙ elim (cases_eq j k) [
-        | inl z ↦
-            ap (λ (r : List A). get_or r x d) (put_at k [] (λ i. get_or rows (slot numbers i) []) j z)
-            ∙ sym (ap (λ (f : ℕ → A). f x) (put_at {A = ℕ → A} k (λ _. d) (λ i y. cell d rows (slot numbers i) y) j z))
-        | inr z ↦
-            ap (λ (r : List A). get_or r x d) (put_other k [] (λ i. get_or rows (slot numbers i) []) j z)
-            ∙ sym (ap (λ (f : ℕ → A). f x) (put_other {A = ℕ → A} k (λ _. d) (λ i y. cell d rows (slot numbers i) y) j z))
-      ]
+  view_left_row {A} rows d row e j x = ap (λ (r : List A). get_or r x d) (view_left rows [] row e j) ∙ grind (arith, nat_tests)
 
 pub end_view :
     (ws : List ℕ) (seats seats' : Seats) (held held' : Held) (noted noted' : (Grid Note)) (k : ℕ) → slot (numbers_of seats) k < 16
@@ -106,63 +71,41 @@ end_view ws seats seats' held held' noted noted' k l n s o h t =
     let within : slot numbers k < length numbers = omega (arith, full) in
     model_eq (whole ws seats' held' noted') (without_job k (whole ws seats held noted)) o
     (λ j.
-    ap₂ (λ (ns : List ℕ) (ss : List Status). get_or ss (slot ns j) Ended) n s
-    ∙ view_left numbers k seats.apart within (states_of seats) Ended Ended ((states_full seats) ∙ sym full) j)
+    rw (n, s) (view_left numbers k seats.apart within (states_of seats) Ended Ended ((states_full seats) ∙ sym full) j))
     (λ j x.
-    ap₂ (λ (ns : List ℕ) (rows : List (List ℕ)). cell 0 rows (slot ns j) x) n h
-    ∙ view_left_row numbers k seats.apart within held.modes.rows 0 (replicate 256 0) (held.modes.full ∙ sym full) j x)
+    rw (n, h) (view_left_row numbers k seats.apart within held.modes.rows 0 (replicate 256 0) (held.modes.full ∙ sym full) j x))
     refl
     (λ j r.
-    ap₂ (λ (ns : List ℕ) (rows : List (List Note)). cell Nothing rows (slot ns j) r) n t
-    ∙ view_left_row numbers k seats.apart within noted.rows Nothing (replicate 256 Nothing) (noted.full ∙ sym full) j r)
+    rw (n, t) (view_left_row numbers k seats.apart within noted.rows Nothing (replicate 256 Nothing) (noted.full ∙ sym full) j r))
 
 -- A new number sits down in a free slot.
 module _ (numbers : List ℕ) (i n : ℕ) (l : i < length numbers) (vacant : get_or numbers i 0 ≡ 0) (some : n ≡ 0 → ⊥) (new : among n numbers ≡ false) where
   new_slot : slot (set numbers i n) n ≡ i
-  new_slot = slot_some (set numbers i n) n some ∙ place_set_new numbers i n l new
+  new_slot = grind (arith, nat_tests, some, place_set_new numbers i n l new)
 
   old_slot : (j : ℕ) → (j ≡ n → ⊥) → slot (set numbers i n) j ≡ slot numbers j
-  old_slot j d =
-      elim (cases_eq j 0) [
-        | inl z ↦ slot_none (set numbers i n) j z ∙ length-set numbers i n ∙ sym (slot_none numbers j z)
-        | inr z ↦ slot_set_other numbers i n j d (λ (e : j ≡ get_or numbers i 0). z (e ∙ vacant))
-      ]
-
-  -- nobody has the free slot
-  not_there : (j : ℕ) → slot numbers j ≡ i → ⊥
-  not_there j e =
-      let r = slot_number numbers j (omega arith) in
-      r.1 (sym r.0 ∙ ap (λ (x : ℕ). get_or numbers x 0) e ∙ vacant)
+  old_slot j d = grind (arith, nat_tests, length-set numbers i n, place_set_other numbers i n j, vacant)
 
   view_sat : (states : List Status) → length states ≡ length numbers → (st : Status) → (j : ℕ)
       → get_or (set states i st) (slot (set numbers i n) j) Ended ≡ put n st (λ k. get_or states (slot numbers k) Ended) j
   view_sat states e st j =
-      elim (cases_eq j n) [
-        | inl z ↦
-            ap (λ (x : ℕ). get_or (set states i st) (slot (set numbers i n) x) Ended) z
-            ∙ ap (λ (x : ℕ). get_or (set states i st) x Ended) new_slot
-            ∙ get_or-set_same states i st Ended (omega arith)
-            ∙ sym (put_at n st (λ k. get_or states (slot numbers k) Ended) j z)
-        | inr z ↦
-            ap (λ (x : ℕ). get_or (set states i st) x Ended) (old_slot j z)
-            ∙ get_or-set_other states i (slot numbers j) st Ended (not_there j)
-            ∙ sym (put_other n st (λ k. get_or states (slot numbers k) Ended) j z)
-      ]
+      grind (
+        arith,
+        nat_tests,
+        new_slot,
+        get_or-set_same states i st Ended,
+        old_slot j,
+        slot_number numbers j,
+        vacant,
+        get_or-set_other states i (slot numbers j) st Ended,
+      )
 
   -- what a table has at a free slot is what it has for nobody
   view_still :
       {A : Type 0} (rows : List (List A)) (d : A) → length rows ≡ length numbers → ((x : ℕ) → cell d rows i x ≡ d) → (j x : ℕ)
       → cell d rows (slot (set numbers i n) j) x ≡ cell d rows (slot numbers j) x
   view_still {A} rows d e blank j x =
-      elim (cases_eq j n) [
-        | inl z ↦
-            ap (λ (k : ℕ). cell d rows (slot (set numbers i n) k) x) z
-            ∙ ap (λ (k : ℕ). cell d rows k x) new_slot
-            ∙ blank x
-            ∙ sym (ap (λ (row : List A). get_or row x d) (get_or_past rows (slot numbers n) [] (omega (arith, e, slot_gone numbers n new))))
-            ∙ ap (λ (k : ℕ). cell d rows (slot numbers k) x) (sym z)
-        | inr z ↦ ap (λ (k : ℕ). cell d rows k x) (old_slot j z)
-      ]
+      grind (arith, nat_tests, new_slot, blank x, get_or_past rows (slot numbers n) [], slot_gone numbers n new, old_slot j)
 
 pub open_view :
     {M S : Type 0} (words : S → List ℕ) (c : Core M S) (seats' : Seats) (i : ℕ) → i < 16 → get_or (numbers_of c.seats) i 0 ≡ 0
@@ -183,14 +126,9 @@ open_view words c seats' i l vacant n s o =
     ∙ view_sat numbers i next within vacant some new (states_of c.seats) ((states_full c.seats) ∙ sym full) Working j
     ∙ ap (λ (k : ℕ). put k Working (λ k. get_or (states_of c.seats) (slot numbers k) Ended) j) is)
     (λ j x.
-    ap (λ (ns : List ℕ). cell 0 c.held.modes.rows (slot ns j) x) n
-    ∙ view_still numbers i next within vacant some new c.held.modes.rows 0 (c.held.modes.full ∙ sym full) (λ y. c.unlocked i y vacant) j x)
+    rw n (view_still numbers i next within vacant some new c.held.modes.rows 0 (c.held.modes.full ∙ sym full) (λ y. c.unlocked i y vacant) j x))
     refl
     (λ j r.
-    ap (λ (ns : List ℕ). cell Nothing c.noted.rows (slot ns j) r) n
-    ∙ view_still numbers i next within vacant some new c.noted.rows Nothing (c.noted.full ∙ sym full) (λ y. nothing (cell Nothing c.noted.rows i y) (c.unnoted i y vacant)) j r)
-  where
-    nothing : (m : Note) → is_nothing m ≡ true → m ≡ Nothing
-    nothing Nothing e = refl
-    nothing (Note.Added a) e = absurd (both_ways false refl e)
-    nothing (Note.PutBack a) e = absurd (both_ways false refl e)
+    rw n
+    (view_still numbers i next within vacant some new c.noted.rows Nothing (c.noted.full ∙ sym full)
+    (λ y. grind (arith, nat_tests, c.unnoted i y vacant)) j r))

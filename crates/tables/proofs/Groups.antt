@@ -1,6 +1,6 @@
 -- Joins of many modes.
-use Rattle.std.proofs.Common.{◌≡◌, ℕ, zero, suc, ◌<◌, true, ◌⊎◌, sym, refl, ap, ◌∙◌, subst, inl, inr, arith}
-use Rattle.std.proofs.lemmas.Bool.{cases_eq, and_parts}
+use Rattle.std.proofs.lemmas.Bool.Decides.{nat_tests}
+use Rattle.std.proofs.Common.{◌≡◌, ℕ, zero, suc, ◌<◌, true, ◌⊎◌, sym, refl, ap, ◌∙◌, inl, inr, arith}
 use Rattle.modes.specs.Systems.{System, Lawful, clipped}
 use Rattle.ledger.specs.Jobs.{Jobs}
 use Rattle.ledger.specs.Promises.{group}
@@ -15,22 +15,14 @@ group_is s js g (suc n) = ap (λ (m : ℕ). s.join m (js.mode n g)) (group_is s 
 abbrev pub Found : ℕ → (ℕ → ℕ) → ℕ → Type 0
 Found m h v = (v ≡ 0) ⊎ ((i : ℕ) × (i < m) × (h i ≡ v))
 
-clip_within : (count a : ℕ) → 0 < count → clipped count a < count
-clip_within count a l = omega arith
-
-clip_twice : (count a : ℕ) → clipped count (clipped count a) ≡ clipped count a
-clip_twice count a = omega arith
-
 module _ (s : System) (law : Lawful s) where
   -- a mode joined twice is joined once
   twice : (a b : ℕ) → s.join (s.join a b) b ≡ s.join a b
   twice a b =
       let c = clipped s.count b in
-      law.join_assoc a b b
-      ∙ ap (s.join a) (law.join_clips b b ∙ law.join_same c (clip_within s.count b law.some_modes))
-      ∙ law.join_clips a c
-      ∙ ap (s.join (clipped s.count a)) (clip_twice s.count b)
-      ∙ sym (law.join_clips a b)
+      let within : c < s.count = omega (arith, law.some_modes) in
+      let once : clipped s.count c ≡ c = omega arith in
+      grind (arith, law.join_assoc a b b, law.join_clips b b, law.join_same c within, law.join_clips a c, once, law.join_clips a b)
 
   within : (n : ℕ) (f : ℕ → ℕ) → join_below s n f < s.count
   within zero f = law.some_modes
@@ -44,21 +36,18 @@ module _ (s : System) (law : Lawful s) where
   upper zero f k l = absurd (omega arith)
   upper (suc n) f k l =
       let b = join_below s n f in
-      elim (cases_eq k n) [
-        | inl e ↦ ap (λ (j : ℕ). s.join (s.join b (f n)) (f j)) e ∙ twice b (f n)
-        | inr e ↦
-            law.join_assoc b (f n) (f k)
-            ∙ ap (s.join b) (law.join_comm (f n) (f k))
-            ∙ sym (law.join_assoc b (f k) (f n))
-            ∙ ap (λ (m : ℕ). s.join m (f n)) (upper n f k (omega arith))
-      ]
+      grind (
+        arith,
+        twice b (f n),
+        law.join_assoc b (f n) (f k),
+        law.join_comm (f n) (f k),
+        law.join_assoc b (f k) (f n),
+        upper n f k,
+      )
 
   least : (n : ℕ) (f : ℕ → ℕ) (u : ℕ) → u < s.count → ((k : ℕ) → k < n → s.join u (f k) ≡ u) → s.join u (join_below s n f) ≡ u
   least zero f u l h = none_more u l
-  least (suc n) f u l h =
-      sym (law.join_assoc u (join_below s n f) (f n))
-      ∙ ap (λ (m : ℕ). s.join m (f n)) (least n f u l (λ k m. h k (omega arith)))
-      ∙ h n (omega arith)
+  least (suc n) f u l h = grind (arith, law.join_assoc u (join_below s n f) (f n), least n f u l (λ k m. h k (omega arith)), h n (omega arith))
 
   taken_in : (m : ℕ) (h : ℕ → ℕ) (v : ℕ) → Found m h v → s.join (join_below s m h) v ≡ join_below s m h
   taken_in m h v (inl e) = ap (s.join (join_below s m h)) e ∙ none_more (join_below s m h) (within m h)
@@ -78,10 +67,4 @@ module _ (s : System) (law : Lawful s) where
   -- what stands with a join stands with each part
   pub stands_below : (n : ℕ) (f : ℕ → ℕ) (t : ℕ) → s.stands t (join_below s n f) ≡ true → (k : ℕ) → k < n → s.stands t (f k) ≡ true
   stands_below zero f t e k l = absurd (omega arith)
-  stands_below (suc n) f t e k l =
-      let b = join_below s n f in
-      let p = and_parts (s.stands t b) (s.stands t (f n)) (sym (law.stands_join t b (f n)) ∙ e) in
-      elim (cases_eq k n) [
-        | inl z ↦ subst (λ (j : ℕ). s.stands t (f j) ≡ true) (sym z) p.1
-        | inr z ↦ stands_below n f t p.0 k (omega arith)
-      ]
+  stands_below (suc n) f t e k l = grind (arith, nat_tests, law.stands_join t (join_below s n f) (f n), stands_below n f t)

@@ -1,9 +1,10 @@
 -- The counts of a granule say who holds it: their sum is the number of holders, and the join of the modes counted is the
 -- group mode.
+use Rattle.std.proofs.lemmas.Bool.Decides.{nat_tests}
 use Rattle.std.proofs.Common.{◌≡◌, ℕ, zero, suc, ◌+◌, ◌<◌, ◌≤◌, Bool, true, cond, not, eqb, List, [], ◌∷◌, length, get_or, sum, sym, refl, ap, ◌∙◌, inl, inr, arith}
 use Rattle.std.proofs.lemmas.List.{get_or_past}
 use Rattle.std.proofs.lemmas.List.Sums.{sum_by-cons}
-use Rattle.std.proofs.lemmas.Bool.{cases_eq, cases_lt, not_from_true, not_from_false, cond-true, cond-false, eq-eqb, ne_eqb}
+use Rattle.std.proofs.lemmas.Bool.{cases_eq}
 use Rattle.modes.specs.Systems.{System, Lawful}
 use Rattle.granules.specs.Below.{sum_below, count_below}
 use Rattle.ledger.specs.Promises.{group, holders}
@@ -12,21 +13,17 @@ use Rattle.tables.specs.Grids.{cell}
 use Rattle.tables.specs.Heads.{one, tally, if_held, group_of}
 use Rattle.tables.specs.Seats.{slot}
 use Rattle.tables.specs.Views.{jobs_of, numbers_of}
-use Rattle.tables.proofs.Counts.{count_front, seat_count}
+use Rattle.tables.proofs.Counts.{sum_front, seat_count}
 use Rattle.tables.proofs.Grids.{long_at}
 use Rattle.tables.proofs.Groups.{Found, group_is, same_join, stands_below}
 use Rattle.tables.proofs.Places.{among_at}
-use Rattle.tables.proofs.Tallies.{one_same, one_other, one_none, tally_some, held_small, held_counted}
+use Rattle.tables.proofs.Tallies.{one_same, one_none, tally_some, held_small, held_counted}
 use Rattle.tables.proofs.Views.{slot_own_number, seated_given}
 use Rattle.tables.proofs.Sitting.{numbers_full}
 
 -- the sum of f below n
 abbrev all_below : ℕ → (ℕ → ℕ) → ℕ
 all_below n f = sum_below n (λ _. true) f
-
-all_front : (n : ℕ) (f : ℕ → ℕ) → all_below (suc n) f ≡ f 0 + all_below n (λ i. f (suc i))
-all_front zero f = omega arith
-all_front (suc n) f = omega (arith, all_front n f)
 
 all_ext : (n : ℕ) (f h : ℕ → ℕ) → ((k : ℕ) → f k ≡ h k) → all_below n f ≡ all_below n h
 all_ext zero f h e = refl
@@ -43,31 +40,20 @@ all_none (suc n) = omega (arith, all_none n)
 -- a list added up is the sum over its places
 sum_all : (xs : List ℕ) → sum xs ≡ all_below (length xs) (λ m. get_or xs m 0)
 sum_all [] = refl
-sum_all (x ∷ xs) = sum_by-cons (λ (y : ℕ). y) x xs ∙ ap (λ (n : ℕ). x + n) (sum_all xs) ∙ sym (all_front (length xs) (λ m. get_or (x ∷ xs) m 0))
+sum_all (x ∷ xs) = sum_by-cons (λ (y : ℕ). y) x xs ∙ ap (λ (n : ℕ). x + n) (sum_all xs) ∙ sym (sum_front (length xs) (λ _. true) (λ m. get_or (x ∷ xs) m 0))
 
 -- one holder is counted at its mode alone
 one_below : (n h : ℕ) → n ≤ h → all_below n (one h) ≡ 0
 one_below zero h l = refl
-one_below (suc n) h l = omega (arith, one_below n h (omega arith), one_other h n (λ (e : h ≡ n). omega arith))
+one_below (suc n) h l = grind (arith, nat_tests, one_below n h)
 
 one_once : (n h : ℕ) → h < n → (h ≡ 0 → ⊥) → all_below n (one h) ≡ 1
 one_once zero h l d = absurd (omega arith)
-one_once (suc n) h l d =
-    elim (cases_eq h n) [
-      | inl e ↦ omega (arith, one_below n h (omega arith), one_same h n e (λ (z : n ≡ 0). d (e ∙ z)))
-      | inr e ↦ omega (arith, one_once n h (omega arith) d, one_other h n e)
-    ]
+one_once (suc n) h l d = grind (arith, nat_tests, one_below n h, one_once n h)
 
 one_all : (n h : ℕ) → h < n → all_below n (one h) ≡ cond (not (eqb h 0)) 1 0
-one_all n h l =
-    elim (cases_eq h 0) [
-      | inl e ↦
-          ap (λ (x : ℕ). all_below n (one x)) e
-          ∙ all_ext n (one 0) (λ _. 0) one_none
-          ∙ all_none n
-          ∙ sym (cond-false (not (eqb h 0)) 1 0 (not_from_true (eqb h 0) (eq-eqb h 0 e)))
-      | inr e ↦ one_once n h l e ∙ sym (cond-true (not (eqb h 0)) 1 0 (not_from_false (eqb h 0) (ne_eqb h 0 e)))
-    ]
+one_all n zero l = all_ext n (one 0) (λ _. 0) one_none ∙ all_none n
+one_all n (suc h) l = grind (arith, nat_tests, one_once n (suc h) l)
 
 -- the counts of all modes count every slot that holds one
 tally_all :
@@ -80,7 +66,7 @@ tally_all (row ∷ rows) n x h =
       arith,
       one_all n (get_or row x 0) (h 0 (omega arith)),
       tally_all rows n x (λ i l. h (suc i) (omega arith)),
-      count_front (length rows) (λ i. not (eqb (cell 0 (row ∷ rows) i x) 0)),
+      sum_front (length rows) (λ i. not (eqb (cell 0 (row ∷ rows) i x) 0)) (λ _. 1),
     )
 
 module _ {M S : Type 0} (c : Core M S) (x : ℕ) (inside : x < 256) where
@@ -103,9 +89,7 @@ module _ {M S : Type 0} (c : Core M S) (x : ℕ) (inside : x < 256) where
       ∙ all_ext 16 (λ m. get_or counts m 0) (tally rows x) (c.held.agree x)
       ∙ tally_all rows 16 x small
       ∙ ap (λ (n : ℕ). count_below n q) (c.held.modes.full ∙ sym (numbers_full c.seats))
-      ∙ sym
-      (seat_count (numbers_of c.seats) c.seats.opened q c.seats.apart c.seats.known
-      (λ i e. not_from_true (eqb (cell 0 rows i x) 0) (eq-eqb (cell 0 rows i x) 0 (c.unlocked i x e))))
+      ∙ sym (seat_count (numbers_of c.seats) c.seats.opened q c.seats.apart c.seats.known (λ i e. grind (arith, nat_tests, c.unlocked i x e)))
 
   abbrev mode_of : ℕ → ℕ
   mode_of k = (jobs_of c.seats c.held).mode k x
@@ -118,36 +102,28 @@ module _ {M S : Type 0} (c : Core M S) (x : ℕ) (inside : x < 256) where
       elim (cases_eq h 0) [
         | inl e ↦ inl e
         | inr d ↦
-            elim (cases_lt i (length rows)) [
-              | inl l ↦
-                  let some = held_counted rows c.held.counts i x l c.held.agree in
-                  let there : get_or counts h 0 ≡ 0 → ⊥ = λ z. omega (arith, some, z, one_same h h refl d) in
-                  inr (h, small i l, cond-false (eqb (get_or counts h 0) 0) 0 h (ne_eqb (get_or counts h 0) 0 there))
-              | inr l ↦ absurd (d (ap (λ (row : List ℕ). get_or row x 0) (get_or_past rows i [] l)))
-            ]
+            let l : i < length rows = grind (arith, d, get_or_past rows i []) in
+            inr (h, small i l, grind (arith, nat_tests, held_counted rows c.held.counts i x l c.held.agree, one_same h h refl d))
       ]
 
   -- and whoever is counted there holds it
   job_counted : (m : ℕ) → Found (suc c.seats.opened) mode_of (if_held counts m)
   job_counted m =
       elim (cases_eq (get_or counts m 0) 0) [
-        | inl e ↦ inl (cond-true (eqb (get_or counts m 0) 0) 0 m (eq-eqb (get_or counts m 0) 0 e))
+        | inl e ↦ inl (grind (arith, nat_tests))
         | inr d ↦
             let numbers = (numbers_of c.seats) in
             let r = tally_some rows x m (omega (arith, d, c.held.agree x m)) in
             let i = r.0 in
             let h = cell 0 rows i x in
-            let some : m ≡ 0 → ⊥ = λ z. omega (arith, r.2, ap (one h) z) in
-            let is : h ≡ m = elim (cases_eq h m) [ inl e ↦ e | inr e ↦ absurd (omega (arith, r.2, one_other h m e)) ] in
-            let l : i < length numbers = omega (arith, r.1, c.held.modes.full, (numbers_full c.seats)) in
-            let taken : get_or numbers i 0 ≡ 0 → ⊥ = λ z. some (sym is ∙ c.unlocked i x z) in
             let k = get_or numbers i 0 in
+            let is : (h ≡ m) × (m ≡ 0 → ⊥) = (grind (arith, nat_tests, r.2), λ z. grind (arith, nat_tests, r.2)) in
+            let l : i < length numbers = omega (arith, r.1, c.held.modes.full, (numbers_full c.seats)) in
+            let taken : k ≡ 0 → ⊥ = λ z. is.1 (sym is.0 ∙ c.unlocked i x z) in
             inr (
               k,
               omega (arith, seated_given c.seats k (among_at numbers i l)),
-              ap (λ (j : ℕ). cell 0 rows j x) (slot_own_number numbers i l c.seats.apart taken)
-                  ∙ is
-                  ∙ sym (cond-false (eqb (get_or counts m 0) 0) 0 m (ne_eqb (get_or counts m 0) 0 d)),
+              grind (arith, nat_tests, is.0, slot_own_number numbers i l c.seats.apart taken),
             )
       ]
 
@@ -162,9 +138,8 @@ module _ {M S : Type 0} (c : Core M S) (x : ℕ) (inside : x < 256) where
     pub all_stand : (t : ℕ) → s.stands (group_of s counts) t ≡ true → (k : ℕ) → s.stands (mode_of k) t ≡ true
     all_stand t e k =
         elim (counted_job k) [
-          | inl z ↦ ap (λ (m : ℕ). s.stands m t) z ∙ law.stands_none t
+          | inl z ↦ grind (arith, z, law.stands_none t)
           | inr r ↦
-              ap (λ (m : ℕ). s.stands m t) (sym r.2)
-              ∙ law.stands_comm (if_held counts r.0) t
-              ∙ stands_below s law 16 (if_held counts) t (law.stands_comm t (group_of s counts) ∙ e) r.0 r.1
+              let below = stands_below s law 16 (if_held counts) t (law.stands_comm t (group_of s counts) ∙ e) r.0 r.1 in
+              cc (r.2, law.stands_comm (if_held counts r.0) t, below)
         ]

@@ -1,36 +1,29 @@
 -- Who is in the way of a job that asks for a lock, and how far the wounding of the younger ones has come.
-use Rattle.std.proofs.Common.{◌≡◌, ℕ, suc, ◌<◌, ◌≤◌, Bool, true, false, cond, not, ◌&&◌, eqb, List, [], ◌||◌, ◌+◌, zero, length, get_or, refl, sym, ap, ◌∙◌, inl, inr, arith}
+use Rattle.std.proofs.Common.{◌≡◌, ℕ, zero, suc, ◌+◌, ◌<◌, ◌≤◌, Bool, true, false, cond, ◌||◌, eqb, List, [], length, get_or, refl, sym, ap, ◌∙◌, inl, inr, arith}
 use Rattle.std.specs.List.{list_any, range_with_len}
+use Rattle.std.proofs.lemmas.Bool.Decides.{nat_tests}
 use Rattle.std.proofs.lemmas.List.{get_or_past}
-use Rattle.std.proofs.lemmas.Bool.{cases_eq, cases_lt, cases_Bool, both_ways, and_parts, and_from, not-true, not_from_false, cond-true, cond-false, eq-eqb, ne_eqb}
+use Rattle.std.proofs.lemmas.Bool.{cases_Bool}
 use Rattle.modes.specs.Systems.{System, Lawful}
 use Rattle.granules.specs.Below.{some_below}
 use Rattle.granules.specs.Paths.{among}
-use Rattle.granules.proofs.Below.{some_at, some_from}
-use Rattle.ledger.specs.Walks.{judge, must_give_way, must_wait, yields, blocks}
+use Rattle.granules.proofs.Below.{never, some_at, some_from}
+use Rattle.ledger.specs.Walks.{judge, must_give_way, yields, blocks}
 use Rattle.ledger.specs.Models.{Model, model_hands}
 use Rattle.ledger.proofs.Kept.{yields_young, blocks_old}
-use Rattle.ledger.proofs.Wounds.{where_false}
 use Rattle.tables.specs.declared.kernel.Core.{Core}
-use Rattle.tables.specs.Grids.{cell}
 use Rattle.tables.specs.Meetings.{holds_up_at}
 use Rattle.tables.specs.Seats.{slot, next_above}
 use Rattle.tables.specs.Views.{model, jobs_of, numbers_of}
 use Rattle.tables.specs.Wounds.{wounded_if}
 use Rattle.tables.proofs.Places.{next_nearest}
 use Rattle.tables.proofs.Views.{seated_given, slot_number, slot_among, among_slot, slot_own_number}
-use Rattle.tables.proofs.Wounds.{upto, upto_here, wounded_upto, skip, start, one, all}
+use Rattle.tables.proofs.Wounds.{wounded_upto, skip, start, one, all}
 use Rattle.tables.proofs.Sitting.{numbers_full}
 
 -- where a search stands that has come to a job: at that job, or past all of them
 abbrev pub far : ℕ → ℕ → ℕ
 far opened job = cond (eqb job 0) (suc opened) job
-
-far_end : (opened job : ℕ) → job ≡ 0 → far opened job ≡ suc opened
-far_end opened job e = cond-true (eqb job 0) (suc opened) job (eq-eqb job 0 e)
-
-far_at : (opened job : ℕ) → (job ≡ 0 → ⊥) → far opened job ≡ job
-far_at opened job e = cond-false (eqb job 0) (suc opened) job (ne_eqb job 0 e)
 
 or_false : (p : Bool) → (p || false) ≡ p
 or_false true = refl
@@ -59,13 +52,15 @@ module _ (s : System) (law : Lawful s) {M S : Type 0} (words : S → List ℕ) (
   -- who does not stand with the target sits somewhere, since others hold nothing
   sits : (k : ℕ) → s.stands ((jobs_of c.seats c.held).mode k x) t ≡ false → slot (numbers_of c.seats) k < length (numbers_of c.seats)
   sits k e =
-      let numbers = (numbers_of c.seats) in
-      elim (cases_lt (slot numbers k) (length numbers)) [
-        | inl l ↦ l
-        | inr l ↦
-            let empty = get_or_past c.held.modes.rows (slot numbers k) [] (omega (arith, l, (numbers_full c.seats), c.held.modes.full)) in
-            absurd (both_ways (s.stands ((jobs_of c.seats c.held).mode k x) t) e (ap (λ (row : List ℕ). s.stands (get_or row x 0) t) empty ∙ law.stands_none t))
-      ]
+      let numbers = numbers_of c.seats in
+      grind (
+        arith,
+        nat_tests,
+        law.stands_none t,
+        get_or_past c.held.modes.rows (slot numbers k) [],
+        numbers_full c.seats,
+        c.held.modes.full,
+      )
 
   -- who gives way is younger and sits somewhere
   in_way_seated : (k : ℕ) → in_way k ≡ true → (a < k) × (among k (numbers_of c.seats) ≡ true)
@@ -76,13 +71,8 @@ module _ (s : System) (law : Lawful s) {M S : Type 0} (words : S → List ℕ) (
   -- nobody between a number and the next gives way
   between : (n k : ℕ) → n < k → k < far c.seats.opened (next_above n (numbers_of c.seats)) → in_way k ≡ false
   between n k l h =
-      let next = next_above n (numbers_of c.seats) in
-      elim (cases_Bool (in_way k)) [
-        | inr e ↦ e
-        | inl e ↦
-            let least = (next_nearest n (numbers_of c.seats)).least k (in_way_seated k e).1 l in
-            absurd (omega (arith, least.1, far_at c.seats.opened next least.0))
-      ]
+      let next = next_nearest n (numbers_of c.seats) in
+      grind (arith, nat_tests, in_way_seated k, next.least k)
 
   -- How far the wounding has come, in c', when `job` is the next to be met.
   pub record Reached (c' : Core M S) (job : ℕ) : Type 0 where
@@ -91,63 +81,38 @@ module _ (s : System) (law : Lawful s) {M S : Type 0} (words : S → List ℕ) (
     pub seated : (job ≡ 0 → ⊥) → among job (numbers_of c.seats) ≡ true
 
   pub has_slot : (c' : Core M S) (job : ℕ) → (job ≡ 0 → ⊥) → Reached c' job → slot (numbers_of c'.seats) job < 16
-  has_slot c' job d r =
-      rw r.numbers
-      (omega (arith, among_slot (numbers_of c.seats) job d (r.seated d), (numbers_full c.seats)))
+  has_slot c' job d r = rw r.numbers (omega (arith, among_slot (numbers_of c.seats) job d (r.seated d), numbers_full c.seats))
 
   -- each step is nearer to the end
   pub nearer_end : (c' : Core M S) (job : ℕ) → (job ≡ 0 → ⊥) → Reached c' job
       → (suc job ≤ far c.seats.opened (next_above job (numbers_of c.seats))) × (far c.seats.opened job ≡ job) × (job ≤ c.seats.opened)
   nearer_end c' job d r =
-      let next = next_above job (numbers_of c.seats) in
-      let here = seated_given c.seats job (r.seated d) in (
-        elim (cases_eq next 0) [
-          | inl z ↦ omega (arith, far_end c.seats.opened next z, here)
-          | inr z ↦ omega (arith, far_at c.seats.opened next z, (next_nearest job (numbers_of c.seats)).above z)
-        ],
-        far_at c.seats.opened job d,
-        here,
-      )
-
-  next_seated : (n : ℕ) → (next_above n (numbers_of c.seats) ≡ 0 → ⊥) → among (next_above n (numbers_of c.seats)) (numbers_of c.seats) ≡ true
-  next_seated n d = (next_nearest n (numbers_of c.seats)).found d
+      let here = seated_given c.seats job (r.seated d) in
+      (grind (arith, nat_tests, here, (next_nearest job (numbers_of c.seats)).above), grind (arith, nat_tests), here)
 
   pub begin : Reached c (next_above a (numbers_of c.seats))
   begin =
+      let next = next_above a (numbers_of c.seats) in
       record {
         numbers = refl;
-        so_far = start in_way (model words c) (far c.seats.opened (next_above a (numbers_of c.seats))) nobody;
-        seated = next_seated a;
+        so_far = start in_way (model words c) (far c.seats.opened next) (λ k l. grind (arith, in_way_seated k, between a k));
+        seated = (next_nearest a (numbers_of c.seats)).found;
       }
-    where
-      nobody : (k : ℕ) → k < far c.seats.opened (next_above a (numbers_of c.seats)) → in_way k ≡ false
-      nobody k l =
-          elim (cases_lt a k) [
-            | inl h ↦ between a k h l
-            | inr h ↦ elim (cases_Bool (in_way k)) [ inr e ↦ e | inl e ↦ absurd (omega (arith, (in_way_seated k e).0)) ]
-          ]
 
   -- one job met
   met : (c' : Core M S) (job : ℕ) → (job ≡ 0 → ⊥) → Reached c' job
       → wounded_if (yields s (jobs_of c'.seats c'.held) a x t job) job (model words c') ≡ wounded_upto in_way (suc job) (model words c)
   met c' job d r =
       let m = model words c in
-      let here = r.so_far ∙ ap (λ (n : ℕ). wounded_upto in_way n m) (far_at c.seats.opened job d) in
-      let own : (jobs_of c'.seats c'.held).mode job x ≡ m.jobs.mode job x =
-      ap (λ (n : Model). n.jobs.mode job x) here
-      ∙ ap (λ (f : ℕ → ℕ). f x) (where_false (upto in_way job) (λ _. 0) m.jobs.mode job (upto_here in_way job))
-      in
+      let at_job : far c.seats.opened job ≡ job = grind (arith, nat_tests) in
+      let here = r.so_far ∙ ap (λ (n : ℕ). wounded_upto in_way n m) at_job in
+      let own : (jobs_of c'.seats c'.held).mode job x ≡ m.jobs.mode job x = ap (λ (n : Model). n.jobs.mode job x) here ∙ grind (arith, nat_tests) in
       ap (λ (h : ℕ). wounded_if (must_give_way (judge s a t job h)) job (model words c')) own
       ∙ ap (wounded_if (in_way job) job) here
       ∙ elim (cases_Bool (in_way job)) [
-        | inl e ↦ ap (λ (b : Bool). wounded_if b job (wounded_upto in_way job m)) e ∙ one in_way m job e
-        | inr e ↦
-            ap (λ (b : Bool). wounded_if b job (wounded_upto in_way job m)) e
-            ∙ skip in_way m job (suc job) (omega arith) (λ k l h. ap in_way (same k l h) ∙ e)
+        | inl e ↦ rw e (one in_way m job e)
+        | inr e ↦ rw e (skip in_way m job (suc job) (omega arith) (λ k l h. let here : k ≡ job = omega arith in ap in_way here ∙ e))
       ]
-    where
-      same : (k : ℕ) → job ≤ k → k < suc job → k ≡ job
-      same k l h = omega arith
 
   pub again : (c' c'' : Core M S) (job : ℕ) → (job ≡ 0 → ⊥) → Reached c' job → (numbers_of c''.seats) ≡ (numbers_of c'.seats)
       → model words c'' ≡ wounded_if (yields s (jobs_of c'.seats c'.held) a x t job) job (model words c')
@@ -160,13 +125,14 @@ module _ (s : System) (law : Lawful s) {M S : Type 0} (words : S → List ℕ) (
             w
             ∙ met c' job d r
             ∙ skip in_way (model words c) (suc job) (far c.seats.opened next) (nearer_end c' job d r).0 (λ k l h. between job k (omega arith) h);
-        seated = next_seated job;
+        seated = (next_nearest job (numbers_of c.seats)).found;
       }
 
   pub end : (c' : Core M S) (job : ℕ) → job ≡ 0 → Reached c' job → model words c' ≡ model_hands.wound in_way (model words c)
   end c' job e r =
+      let past : far c.seats.opened job ≡ suc c.seats.opened = grind (arith, nat_tests) in
       r.so_far
-      ∙ ap (λ (n : ℕ). wounded_upto in_way n (model words c)) (far_end c.seats.opened job e)
+      ∙ ap (λ (n : ℕ). wounded_upto in_way n (model words c)) past
       ∙ all in_way (model words c) (suc c.seats.opened) (omega arith)
       (λ k z. omega (arith, seated_given c.seats k (in_way_seated k z).1))
 
@@ -180,32 +146,20 @@ module _ (s : System) (law : Lawful s) {M S : Type 0} (words : S → List ℕ) (
   -- a slot that holds up has a job that does
   held_up : (i : ℕ) → i < 16 → at_slot i ≡ true → some_below a older ≡ true
   held_up i l e =
-      let numbers = (numbers_of c.seats) in
+      let numbers = numbers_of c.seats in
       let k = get_or numbers i 0 in
-      let parts = and_parts (not (eqb k 0)) (must_wait (judge s a t k (cell 0 c.held.modes.rows i x))) e in
-      let some : k ≡ 0 → ⊥ = λ z. both_ways (eqb k 0) (not-true (eqb k 0) parts.0) (eq-eqb k 0 z) in
-      let own = slot_own_number numbers i (omega (arith, (numbers_full c.seats))) c.seats.apart some in
-      let up : older k ≡ true = ap (λ (j : ℕ). must_wait (judge s a t k (cell 0 c.held.modes.rows j x))) own ∙ parts.1 in
+      let up : older k ≡ true = grind (arith, nat_tests, slot_own_number numbers i, numbers_full c.seats, c.seats.apart) in
       some_from a older k (blocks_old s law (jobs_of c.seats c.held) a x t k up).0 up
 
   -- and the other way round
   not_held_up : some_below 16 at_slot ≡ false → some_below a older ≡ false
-  not_held_up none =
-      elim (cases_Bool (some_below a older)) [
-        | inr e ↦ e
-        | inl e ↦
-            let numbers = (numbers_of c.seats) in
-            let found = some_at a older e in
-            let k = found.0 in
-            let old = blocks_old s law (jobs_of c.seats c.held) a x t k found.2 in
-            let l = sits k old.1 in
-            let number = slot_number numbers k l in
-            let here : at_slot (slot numbers k) ≡ true =
-            ap (λ (j : ℕ). not (eqb j 0) && must_wait (judge s a t j (cell 0 c.held.modes.rows (slot numbers k) x))) number.0
-            ∙ and_from (not (eqb k 0)) (older k) (not_from_false (eqb k 0) (ne_eqb k 0 number.1)) found.2
-            in
-            absurd (both_ways (some_below 16 at_slot) none (some_from 16 at_slot (slot numbers k) (omega (arith, l, (numbers_full c.seats))) here))
-      ]
+  not_held_up none = never (some_below a older) (λ e. let r = some_at a older e in cc (none, found r.0 r.2))
+    where
+      found : (k : ℕ) → older k ≡ true → some_below 16 at_slot ≡ true
+      found k e =
+          let numbers = numbers_of c.seats in
+          let l = sits k (blocks_old s law (jobs_of c.seats c.held) a x t k e).1 in
+          some_from 16 at_slot (slot numbers k) (omega (arith, l, numbers_full c.seats)) (grind (arith, nat_tests, slot_number numbers k l, e))
 
   -- the slots, asked in turn, say whether an older job is in the way
   pub asked : list_any at_slot (range_with_len 0 16) ≡ some_below a older
@@ -221,29 +175,13 @@ module _ (s : System) (law : Lawful s) {M S : Type 0} (words : S → List ℕ) (
   -- where everybody stands with the target nobody is in the way
   module _ (stand : (k : ℕ) → s.stands ((jobs_of c.seats c.held).mode k x) t ≡ true) where
     pub nobody_older : some_below a older ≡ false
-    nobody_older =
-        elim (cases_Bool (some_below a older)) [
-          | inr e ↦ e
-          | inl e ↦
-              let found = some_at a older e in
-              let k = found.0 in
-              absurd
-              (both_ways (s.stands ((jobs_of c.seats c.held).mode k x) t)
-              (blocks_old s law (jobs_of c.seats c.held) a x t k found.2).1 (stand k))
-        ]
+    nobody_older = never (some_below a older) (λ e. let r = some_at a older e in cc ((blocks_old s law (jobs_of c.seats c.held) a x t r.0 r.2).1, stand r.0))
 
     nobody_younger : (k : ℕ) → in_way k ≡ false
-    nobody_younger k =
-        elim (cases_Bool (in_way k)) [
-          | inr e ↦ e
-          | inl e ↦
-              absurd
-              (both_ways (s.stands ((jobs_of c.seats c.held).mode k x) t)
-              (yields_young s law (jobs_of c.seats c.held) a x t k e).1 (stand k))
-        ]
+    nobody_younger k = grind (arith, nat_tests, yields_young s law (jobs_of c.seats c.held) a x t k, stand k)
 
     pub unhurt : model words c ≡ model_hands.wound in_way (model words c)
     unhurt =
         let last = suc c.seats.opened in
         start in_way (model words c) last (λ k l. nobody_younger k)
-        ∙ all in_way (model words c) last (omega arith) (λ k e. absurd (both_ways (in_way k) (nobody_younger k) e))
+        ∙ all in_way (model words c) last (omega arith) (λ k e. absurd (cc (e, nobody_younger k)))

@@ -1,12 +1,13 @@
 -- Notes of an operation, and what they are to the model.
-use Rattle.std.proofs.Common.{◌≡◌, ℕ, zero, suc, ◌+◌, ◌<◌, ◌≤◌, Bool, true, false, cond, List, [], ◌∷◌, ◌++◌, length, get_or, set, sym, refl, ap, ◌∙◌, subst, inl, inr, arith}
+use Rattle.std.proofs.lemmas.Bool.Decides.{nat_tests}
+use Rattle.std.proofs.Common.{◌≡◌, ℕ, zero, suc, ◌+◌, ◌<◌, ◌≤◌, Bool, true, List, [], ◌∷◌, length, get_or, set, sym, refl, ap, ◌∙◌, inl, inr, arith}
 use Rattle.std.specs.List.{fold, filter, range_with_len}
 use Rattle.std.proofs.lemmas.List.{append-nil, length-set, get_or-set_same, set-get_or}
 use Rattle.std.proofs.lemmas.List.Sums.{fold_push}
 use mathlib.Core.Path.{fun_ext}
-use Rattle.std.proofs.lemmas.Bool.{and_left, both_ways, cases_Bool, cases_lt, cond-true, cond-false}
+use Rattle.std.proofs.lemmas.Bool.{cases_Bool}
 use Rattle.modes.specs.Systems.{System}
-use Rattle.granules.specs.Paths.{beneath, is_record, record_beneath, records}
+use Rattle.granules.specs.Paths.{record_beneath, records}
 use Rattle.granules.specs.declared.tree.Tree.{Tree}
 use Rattle.granules.specs.Trees.{table}
 use Rattle.granules.proofs.Kept.{size}
@@ -25,17 +26,10 @@ use Rattle.tables.specs.Grids.{cell, with_cell}
 use Rattle.tables.specs.Notes.{noted_at}
 use Rattle.tables.specs.Seats.{slot}
 use Rattle.tables.specs.Views.{whole, numbers_of}
-use Rattle.tables.proofs.Sweeps.{Swept, not_yet, only_slot, swept_all, swept_from, swept_put, swept_skip}
+use Rattle.tables.proofs.Sweeps.{Swept, only_slot, swept_all, swept_from, swept_put, swept_skip}
 use Rattle.tables.proofs.Views.{view_row}
 use Rattle.tables.proofs.Wounds.{model_eq}
 use Rattle.tables.proofs.Sitting.{numbers_full}
-
-module _ (ps : List ℕ) (o : Operation) (ws : List ℕ) where
-  pub noted_there : (r : ℕ) (n : Note) → record_beneath ps o.granule r ≡ true → noted_at ps o ws r n ≡ noted o.action (word_at ws r) n
-  noted_there r n e = rw (e, noted_at)
-
-  pub noted_else : (r : ℕ) (n : Note) → record_beneath ps o.granule r ≡ false → noted_at ps o ws r n ≡ n
-  noted_else r n e = rw (e, noted_at)
 
 -- The notes of a slot taken, and the words changed: the operation of its job carried out in the model.
 pub carry_view :
@@ -56,15 +50,8 @@ carry_view s ps ws ws' seats held before after_it k o l others notes w =
 -- what a filter keeps passes it
 kept_passes : (f : ℕ → Bool) (xs : List ℕ) (i d : ℕ) → i < length (filter f xs) → f (get_or (filter f xs) i d) ≡ true
 kept_passes f [] i d l = absurd (omega arith)
-kept_passes f (x ∷ xs) i d l = by (f x) refl i l (λ j. kept_passes f xs j d)
-  where
-    by :
-        (b : Bool) → f x ≡ b → (j : ℕ) → j < length (cond b (x ∷ filter f xs) (filter f xs))
-        → ((k : ℕ) → k < length (filter f xs) → f (get_or (filter f xs) k d) ≡ true)
-        → f (get_or (cond b (x ∷ filter f xs) (filter f xs)) j d) ≡ true
-    by true e zero m h = e
-    by true e (suc j) m h = h j (omega arith)
-    by false e j m h = h j m
+kept_passes f (x ∷ xs) zero d l = grind (arith, nat_tests, kept_passes f xs 0 d)
+kept_passes f (x ∷ xs) (suc i) d l = grind (arith, nat_tests, kept_passes f xs i d, kept_passes f xs (suc i) d)
 
 -- the next of the records beneath a granule is one of the 256 granules
 pub record_near :
@@ -72,13 +59,8 @@ pub record_near :
     → (length xs < length (records (table t) g)) × (p ≡ get_or (records (table t) g) (length xs) p) → p < 256
 record_near t g xs p h =
     let ps = table t in
-    let here : record_beneath ps g p ≡ true =
-    ap (record_beneath ps g) h.1 ∙ kept_passes (record_beneath ps g) (range_with_len 0 (length ps)) (length xs) p h.0
-    in
-    elim (cases_lt p (length ps)) [
-      | inl m ↦ omega (arith, m, size t, t.few)
-      | inr m ↦ absurd (both_ways (record_beneath ps g p) (and_left (is_record ps p) (beneath ps g p) (record_outside ps p m)) here)
-    ]
+    let kept = kept_passes (record_beneath ps g) (range_with_len 0 (length ps)) (length xs) p h.0 in
+    grind (arith, nat_tests, kept, h.1, record_outside ps p, size t, t.few)
 
 -- The notes of a slot once an operation has been noted on a record, and on these records, one after the other.
 abbrev pub note_on : Operation → List ℕ → ℕ → List (List Note) → ℕ → List (List Note)
@@ -111,13 +93,12 @@ module _ (ps : List ℕ) (o : Operation) (ws : List ℕ) (s : ℕ) (start : List
   one_more n rows l t h =
       let v = noted o.action (word_at ws n) (cell Nothing rows s n) in
       let row = get_or rows s [] in
-      let here : cell Nothing rows s n ≡ old n = h.swept n ∙ not_yet Nothing s new old n n (omega arith) in
-      let is : v ≡ new n = ap (noted o.action (word_at ws n)) here ∙ sym (noted_there ps o ws n (old n) t) in
-      let mine : get_or (set rows s (set row n v)) s [] ≡ set row n v = get_or-set_same rows s (set row n v) [] (in_rows n rows h) in
+      let inside = in_rows n rows h in
+      let is : v ≡ new n = grind (arith, nat_tests, h.swept n, t) in
       record {
-        only = only_slot start rows (with_cell rows s n v) s n v (in_rows n rows h) h.only refl;
-        wide = ap length mine ∙ length-set row n v ∙ h.wide;
-        swept = swept_put Nothing s new old rows n v (in_rows n rows h) (omega (arith, h.wide, l)) is h.swept;
+        only = only_slot start rows (with_cell rows s n v) s n v inside h.only refl;
+        wide = grind (arith, get_or-set_same rows s (set row n v) [] inside, length-set row n v, h.wide);
+        swept = swept_put Nothing s new old rows n v inside (omega (arith, h.wide, l)) is h.swept;
       }
 
   upto : (n : ℕ) → n ≤ 256 → Noted n (before n)
@@ -134,22 +115,13 @@ module _ (ps : List ℕ) (o : Operation) (ws : List ℕ) (s : ℕ) (start : List
       let now = ap (noted_on o ws s start) (filter_more n test) in
       elim (cases_Bool (test n)) [
         | inl t ↦
-            let push =
-            now
-            ∙ ap (λ (xs : List ℕ). noted_on o ws s start (filter test (range_with_len 0 n) ++ xs)) (cond-true (test n) (n ∷ []) [] t)
-            ∙ fold_push (note_on o ws s) start (filter test (range_with_len 0 n)) n
-            in
-            subst (λ (m : ℕ). Noted m (before (suc n))) next
-            (subst (Noted (n + 1)) (sym push) (one_more n (before n) (omega (arith, l)) t h))
+            let push = fold_push (note_on o ws s) start (filter test (range_with_len 0 n)) n in
+            let is : before (suc n) ≡ note_on o ws s (before n) n = grind (arith, now, push) in
+            rw (sym next, is) (one_more n (before n) (omega (arith, l)) t h)
         | inr t ↦
-            let same =
-            now
-            ∙ ap (λ (xs : List ℕ). noted_on o ws s start (filter test (range_with_len 0 n) ++ xs)) (cond-false (test n) (n ∷ []) [] t)
-            ∙ ap (noted_on o ws s start) (append-nil (filter test (range_with_len 0 n)))
-            in
-            subst (λ (m : ℕ). Noted m (before (suc n))) next
-            (subst (Noted (n + 1)) (sym same)
-            (record { only = h.only; wide = h.wide; swept = swept_skip Nothing s new old (before n) n (noted_else ps o ws n (old n) t) h.swept }))
+            let is : before (suc n) ≡ before n = grind (arith, now, append-nil (filter test (range_with_len 0 n))) in
+            rw (sym next, is)
+            (record { only = h.only; wide = h.wide; swept = swept_skip Nothing s new old (before n) n (rw (t, noted_at)) h.swept })
       ]
 
   abbrev done : List (List Note)
@@ -160,6 +132,4 @@ module _ (ps : List ℕ) (o : Operation) (ws : List ℕ) (s : ℕ) (start : List
 
   pub noted_all : (r : ℕ) → cell Nothing done s r ≡ new r
   noted_all =
-      swept_all Nothing s new old done (length ps)
-      (λ r l. noted_else ps o ws r (old r) (and_left (is_record ps r) (beneath ps o.granule r) (record_outside ps r l)))
-      (upto (length ps) few).swept
+      swept_all Nothing s new old done (length ps) (λ r l. grind (arith, record_outside ps r l)) (upto (length ps) few).swept

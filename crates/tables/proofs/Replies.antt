@@ -1,4 +1,5 @@
 -- An operation that is carried out answers in the shape that its action has.
+use Rattle.std.proofs.lemmas.Bool.Decides.{nat_tests}
 use Rattle.std.proofs.Common.{◌≡◌, ℕ, Bool, true, false, Some, None, Ok, Err, Option, Result, refl, ap, subst, arith}
 use Rattle.granules.specs.Paths.{records_beneath}
 use Rattle.operations.specs.declared.operation.Action.{Action}
@@ -6,7 +7,7 @@ use Rattle.operations.specs.declared.operation.Action.TheVariants.{Read, Mean, S
 use Rattle.operations.specs.declared.operation.Operation.{Operation}
 use Rattle.operations.specs.declared.operation.Outcome.{Outcome}
 use Rattle.operations.specs.Words.{sum, told, answer}
-use Rattle.ledger.specs.declared.call.Answer.TheVariants.{Told, Waits}
+use Rattle.ledger.specs.declared.call.Answer.TheVariants.{Told}
 use Rattle.ledger.specs.declared.call.Call.TheVariants.{Carry}
 use Rattle.ledger.specs.declared.refusal.Refusal.{Refusal}
 use Rattle.ledger.specs.Refusals.{refusal}
@@ -29,13 +30,10 @@ module _ (y : Layout) (j : ℕ) (o : Operation) (m : Model) (t : Outcome) where
       let done : Told (answer y.parents o w.left.words) ≡ Told t = rw (e, follows) at h in
       let is : answer y.parents o w.left.words ≡ t = cc in
       subst (Shaped o.action) is (shaped o.action (sum y.parents w.left.words o.granule) (records_beneath y.parents o.granule))
-  by_walk w false e h =
-      let stopped : Waits ≡ Told t = rw (e, follows) at h in
-      let z : ◌≡◌ {A = ℕ} 0 1 = cc in
-      absurd (omega arith)
+  by_walk w false e h = absurd (grind (arith, nat_tests, e, h))
 
   by_row : (r : Option Refusal) → (refused_or r m (try y j o m)).said ≡ Told t → Shaped o.action t
-  by_row (Some r) e = let z : ◌≡◌ {A = ℕ} 0 1 = cc in absurd (omega arith)
+  by_row (Some r) e = absurd (grind (arith, e))
   by_row None e = let w = attempt model_hands y j o m in by_walk w w.complete refl e
 
   said_shaped : (serve y (Carry j o) m).said ≡ Told t → Shaped o.action t

@@ -1,5 +1,5 @@
 -- One granule of a walk, where the mode that a job has is not enough.
-use Rattle.std.proofs.Common.{◌≡◌, ℕ, true, false, eqb, List, ◌∷◌, sym, ap, ◌∙◌, ap₂}
+use Rattle.std.proofs.Common.{◌≡◌, ℕ, true, false, eqb, List, ◌∷◌, sym, ap, ◌∙◌, ap₂, arith}
 use Rattle.std.proofs.lemmas.Bool.{ne_eqb}
 use Rattle.modes.specs.Systems.{System}
 use Rattle.granules.specs.Below.{some_below}
@@ -32,19 +32,10 @@ module _ (s : System) (m : Model) (w : Walker) (x mode t : ℕ) (has_mode : mode
     pub stopped :
         (m₁ : Model) → some_below w.job (blocks s m.jobs w.job x t) ≡ true → m₁ ≡ hurt t
         → (xs : List ℕ) → walk_on s w (x ∷ xs) m ≡ record { left = m₁; complete = false }
-    stopped m₁ b e xs =
-        walk_stops model_hands s w.kind w.goal w.job x xs m not_full not_own
-        (ap (λ (n : ℕ). some_below w.job (blocks s m.jobs w.job x n)) (sym is_target) ∙ b)
-        ∙ ap (λ (n : Model). record { left = n; complete = false }) (ap hurt (sym is_target) ∙ sym e)
+    stopped m₁ b e xs = grind (arith, b, e, is_target, walk_stops model_hands s w.kind w.goal w.job x xs m not_full not_own)
 
     pub raised :
         (m₁ m₂ : Model) → some_below w.job (blocks s m.jobs w.job x t) ≡ false → m₁ ≡ hurt t
         → m₂ ≡ model_hands.with_jobs (raise w.job x t m₁.jobs) m₁
         → (xs : List ℕ) → walk_on s w (x ∷ xs) m ≡ walk_on s w xs m₂
-    raised m₁ m₂ b e f xs =
-        walk_goes model_hands s w.kind w.goal w.job x xs m not_full not_own
-        (ap (λ (n : ℕ). some_below w.job (blocks s m.jobs w.job x n)) (sym is_target) ∙ b)
-        ∙ ap (walk_on s w xs)
-        (ap (λ (n : ℕ). model_hands.with_jobs (raise w.job x n (hurt n).jobs) (hurt n)) (sym is_target)
-        ∙ ap (λ (n : Model). model_hands.with_jobs (raise w.job x t n.jobs) n) (sym e)
-        ∙ sym f)
+    raised m₁ m₂ b e f xs = grind (arith, b, e, f, is_target, walk_goes model_hands s w.kind w.goal w.job x xs m not_full not_own)

@@ -1,12 +1,12 @@
 -- Which calls the table lets through, and what is known then.
-use Rattle.std.proofs.Common.{◌≡◌, ℕ, ◌<◌, Bool, true, false, leb, Some, None, Option, refl, ap, ◌∙◌, ap₂, inl, inr, arith}
+use Rattle.std.proofs.lemmas.Bool.Decides.{nat_tests}
+use Rattle.std.proofs.Common.{◌≡◌, ℕ, ◌<◌, Bool, true, false, leb, Some, None, Option, ap, ◌∙◌, arith}
 use Rattle.std.proofs.lemmas.List.{get_or_past}
-use Rattle.std.proofs.lemmas.Bool.{cases_lt, both_ways}
 use Rattle.ledger.specs.declared.call.Answer.TheVariants.{Refused}
 use Rattle.ledger.specs.declared.call.Call.{Call}
 use Rattle.ledger.specs.declared.call.Call.TheVariants.{Open}
 use Rattle.ledger.specs.declared.job.Status.{Status}
-use Rattle.ledger.specs.declared.job.Status.TheVariants.{Working, Waiting, Wounded, Ended}
+use Rattle.ledger.specs.declared.job.Status.TheVariants.{Working, Ended}
 use Rattle.ledger.specs.declared.refusal.Refusal.{Refusal}
 use Rattle.ledger.specs.declared.refusal.Refusal.TheVariants.{TooManyJobs, NumbersUsedUp}
 use Rattle.ledger.specs.Jobs.{Jobs, is_ended, is_open, is_wounded}
@@ -27,45 +27,30 @@ module _ (y : Layout) (js : Jobs) where
 
   pub open_full : leb 16 (unended js) ≡ true → refusal (facts y js) Open ≡ Some TooManyJobs
   unfolding rows_of_open
-  open_full e = ap (λ (a : Bool). rows_of_open a (leb 1000000 js.opened)) e
+  open_full e = grind (arith, nat_tests, e)
 
   pub open_spent : leb 16 (unended js) ≡ false → leb 1000000 js.opened ≡ true → refusal (facts y js) Open ≡ Some NumbersUsedUp
   unfolding rows_of_open
-  open_spent e f = ap₂ rows_of_open e f
+  open_spent e f = grind (arith, nat_tests, e, f)
 
   pub open_free : leb 16 (unended js) ≡ false → leb 1000000 js.opened ≡ false → refusal (facts y js) Open ≡ None
   unfolding rows_of_open
-  open_free e f = ap₂ rows_of_open e f
+  open_free e f = grind (arith, nat_tests, e, f)
 
 -- Whoever has not ended sits in a slot.
 pub has_seat : (seats : Seats) (k : ℕ) → is_ended (status_of (numbers_of seats) (states_of seats) k) ≡ false → slot (numbers_of seats) k < 16
 has_seat seats k e =
-    elim (cases_lt (slot (numbers_of seats) k) 16) [
-      | inl l ↦ l
-      | inr l ↦
-          absurd
-          (both_ways (is_ended (status_of (numbers_of seats) (states_of seats) k)) e
-          (ap is_ended (get_or_past (states_of seats) (slot (numbers_of seats) k) Ended (omega (arith, l, (states_full seats))))))
-    ]
+    grind (arith, nat_tests, get_or_past (states_of seats) (slot (numbers_of seats) k) Ended, states_full seats)
 
 -- what a state is that no row refuses
 pub works : (st : Status) → unless_working st ≡ None → (st ≡ Working) × (is_ended st ≡ false) × (is_open st ≡ true)
-works Working e = (refl, refl, refl)
-works (Waiting o) e = let z : ◌≡◌ {A = ℕ} 0 1 = cc in absurd (omega arith)
-works Wounded e = let z : ◌≡◌ {A = ℕ} 0 1 = cc in absurd (omega arith)
-works Ended e = let z : ◌≡◌ {A = ℕ} 0 1 = cc in absurd (omega arith)
+works st e = (grind (arith, nat_tests, e), grind (arith, nat_tests, e), grind (arith, nat_tests, e))
 
 pub hurt : (st : Status) → unless_wounded st ≡ None → (is_ended st ≡ false) × (is_wounded st ≡ true)
-hurt Working e = let z : ◌≡◌ {A = ℕ} 0 1 = cc in absurd (omega arith)
-hurt (Waiting o) e = let z : ◌≡◌ {A = ℕ} 0 1 = cc in absurd (omega arith)
-hurt Wounded e = (refl, refl)
-hurt Ended e = let z : ◌≡◌ {A = ℕ} 0 1 = cc in absurd (omega arith)
+hurt st e = (grind (arith, nat_tests, e), grind (arith, nat_tests, e))
 
 pub lives : (st : Status) → if_ended st ≡ None → is_ended st ≡ false
-lives Working e = refl
-lives (Waiting o) e = refl
-lives Wounded e = refl
-lives Ended e = let z : ◌≡◌ {A = ℕ} 0 1 = cc in absurd (omega arith)
+lives st e = grind (arith, nat_tests, e)
 
 -- a call by the row of the table
 module _ (y : Layout) (c : Call) (m : Model) where

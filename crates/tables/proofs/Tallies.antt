@@ -1,39 +1,23 @@
 -- Counts of those who hold a mode.
-use Rattle.std.proofs.Common.{◌≡◌, ℕ, zero, suc, ◌+◌, ◌<◌, ◌≤◌, true, not, ◌&&◌, eqb, List, [], ◌∷◌, length, get_or, set, replicate, sym, refl, ap, ◌∙◌, inl, inr, arith}
+use Rattle.std.proofs.lemmas.Bool.Decides.{nat_tests}
+use Rattle.std.proofs.Common.{◌≡◌, ℕ, zero, suc, ◌+◌, ◌<◌, ◌≤◌, true, List, [], ◌∷◌, length, get_or, set, replicate, sym, refl, ◌∙◌, inl, inr, arith}
 use Rattle.std.proofs.lemmas.List.{get_or-set_same, get_or-set_other, get_or_past}
-use Rattle.std.proofs.lemmas.Bool.{cases_eq, cases_lt, cases_Bool, and_from, and_left, and_right, not_from_false, not_from_true, cond-true, cond-false, eq-eqb, ne_eqb}
+use Rattle.std.proofs.lemmas.Bool.{cases_eq}
 use Rattle.tables.specs.Grids.{all_long, cell, with_cell}
 use Rattle.tables.specs.Heads.{one, tally}
 use Rattle.tables.proofs.Grids.{empty, empty_cell, long_at}
 
 pub one_same : (h m : ℕ) → h ≡ m → (m ≡ 0 → ⊥) → one h m ≡ 1
-one_same h m e some =
-    cond-true (not (eqb m 0) && eqb h m) 1 0
-    (and_from (not (eqb m 0)) (eqb h m) (not_from_false (eqb m 0) (ne_eqb m 0 some)) (eq-eqb h m e))
-
-pub one_other : (h m : ℕ) → (h ≡ m → ⊥) → one h m ≡ 0
-one_other h m e = cond-false (not (eqb m 0) && eqb h m) 1 0 (and_right (not (eqb m 0)) (eqb h m) (ne_eqb h m e))
+one_same h m e some = grind (arith, nat_tests)
 
 -- no lock is not counted
 pub one_none : (m : ℕ) → one 0 m ≡ 0
-one_none m =
-    elim (cases_eq m 0) [
-      | inl e ↦ cond-false (not (eqb m 0) && eqb 0 m) 1 0 (and_left (not (eqb m 0)) (eqb 0 m) (not_from_true (eqb m 0) (eq-eqb m 0 e)))
-      | inr e ↦ one_other 0 m (λ (z : 0 ≡ m). e (sym z))
-    ]
-
-one_le : (h m : ℕ) → one h m ≤ 1
-one_le h m =
-    let b = not (eqb m 0) && eqb h m in
-    elim (cases_Bool b) [
-      | inl e ↦ omega (arith, cond-true {A = ℕ} b 1 0 e)
-      | inr e ↦ omega (arith, cond-false {A = ℕ} b 1 0 e)
-    ]
+one_none m = grind (arith, nat_tests)
 
 -- at most one a slot
 pub tally_le : (rows : List (List ℕ)) (x m : ℕ) → tally rows x m ≤ length rows
 tally_le [] x m = omega arith
-tally_le (row ∷ rows) x m = omega (arith, one_le (get_or row x 0) m, tally_le rows x m)
+tally_le (row ∷ rows) x m = grind (arith, nat_tests, tally_le rows x m)
 
 -- who holds a mode is counted
 tally_has : (rows : List (List ℕ)) (s x m : ℕ) → s < length rows → one (cell 0 rows s x) m ≤ tally rows x m
@@ -50,12 +34,9 @@ tally_some (row ∷ rows) x m l =
       | inr e ↦ (0, omega arith, omega arith)
     ]
 
-tally_blank_row : (row : List ℕ) (rows : List (List ℕ)) (x m : ℕ) → get_or row x 0 ≡ 0 → tally (row ∷ rows) x m ≡ tally rows x m
-tally_blank_row row rows x m e = omega (arith, ap (λ (h : ℕ). one h m) e, one_none m)
-
 tally_blank : (n : ℕ) (x m : ℕ) → tally (replicate n (replicate 256 0)) x m ≡ 0
 tally_blank zero x m = refl
-tally_blank (suc n) x m = tally_blank_row (replicate 256 0) (replicate n (replicate 256 0)) x m (empty 256 0 x) ∙ tally_blank n x m
+tally_blank (suc n) x m = let blank = empty {A = ℕ} 256 0 x in grind (arith, nat_tests, blank, tally_blank n x m)
 
 -- One row written for another.
 tally_set :
@@ -74,18 +55,17 @@ pub agree_put :
 agree_put rows counts s x v new l h k agree e y m =
     let row = get_or rows s [] in
     let moved = tally_set rows s (set row x v) y m l in
-    elim (cases_eq y x) [
-      | inl z ↦
-          let here : cell 0 (set counts x new) y m ≡ get_or new m 0 =
-          ap (λ (j : ℕ). cell 0 (set counts x new) j m) z ∙ ap (λ (r : List ℕ). get_or r m 0) (get_or-set_same counts x new [] h)
-          in
-          let v_here : get_or (set row x v) y 0 ≡ v = ap (λ (j : ℕ). get_or (set row x v) j 0) z ∙ get_or-set_same row x v 0 k in
-          let before : cell 0 counts x m ≡ tally rows y m = ap (λ (j : ℕ). cell 0 counts j m) (sym z) ∙ agree y m in
-          omega (arith, here, moved, ap (λ (w : ℕ). one w m) v_here, before, e m, ap (λ (j : ℕ). one (cell 0 rows s j) m) z)
-      | inr z ↦
-          let here : cell 0 (set counts x new) y m ≡ cell 0 counts y m = ap (λ (r : List ℕ). get_or r m 0) (get_or-set_other counts x y new [] z) in
-          omega (arith, here, moved, ap (λ (w : ℕ). one w m) (get_or-set_other row x y v 0 z), agree y m)
-    ]
+    grind (
+      arith,
+      nat_tests,
+      moved,
+      get_or-set_same counts x new [] h,
+      get_or-set_same row x v 0 k,
+      get_or-set_other counts x y new [],
+      get_or-set_other row x y v 0,
+      agree y m,
+      e m,
+    )
 
 pub agree_blank : (x m : ℕ) → cell 0 (replicate 256 (replicate 16 0)) x m ≡ tally (replicate 16 (replicate 256 0)) x m
 agree_blank x m = empty_cell 256 16 0 x m ∙ sym (tally_blank 16 x m)
@@ -96,13 +76,15 @@ pub held_small :
     → ((y m : ℕ) → cell 0 counts y m ≡ tally rows y m) → cell 0 rows s x < 16
 held_small rows counts s x l h long agree =
     let old = cell 0 rows s x in
-    elim (cases_lt old 16) [
-      | inl k ↦ k
-      | inr k ↦
-          let past = get_or_past (get_or counts x []) old 0 (omega (arith, k, long_at 16 counts x h long)) in
-          let counted = tally_has rows s x old l in
-          absurd (omega (arith, past, agree x old, counted, one_same old old refl (λ (z : old ≡ 0). omega arith)))
-    ]
+    grind (
+      arith,
+      nat_tests,
+      get_or_past (get_or counts x []) old 0,
+      long_at 16 counts x h long,
+      tally_has rows s x old l,
+      agree x old,
+      one_same old old refl,
+    )
 
 pub held_counted :
     (rows counts : List (List ℕ)) (s x : ℕ) → s < length rows → ((y m : ℕ) → cell 0 counts y m ≡ tally rows y m)

@@ -1,9 +1,8 @@
 -- What an attempt comes to.
-use Rattle.std.proofs.Common.{◌≡◌, ℕ, ◌<◌, Bool, true, false, eqb, List, [], ◌∷◌, get_or, set, sym, refl, ap, ◌∙◌, ap₂, inl, inr, arith}
-use Rattle.std.proofs.lemmas.Bool.{cases_Bool}
+use Rattle.std.proofs.lemmas.Bool.Decides.{nat_tests}
+use Rattle.std.proofs.Common.{◌≡◌, ℕ, ◌<◌, Bool, true, false, List, [], ◌∷◌, get_or, set, sym, refl, ap, ◌∙◌, ap₂, arith}
 use Rattle.modes.specs.Systems.{System}
 use Rattle.modes.specs.declared.kind.Kind.{Kind}
-use Rattle.granules.specs.Below.{some_below}
 use Rattle.granules.specs.Paths.{path}
 use Rattle.operations.specs.declared.operation.Operation.{Operation}
 use Rattle.operations.specs.Actions.{kind}
@@ -11,15 +10,13 @@ use Rattle.operations.specs.Words.{answer}
 use Rattle.ledger.specs.declared.job.Note.{Note}
 use Rattle.ledger.specs.declared.job.Note.TheVariants.{Nothing}
 use Rattle.ledger.specs.declared.job.Status.{Status}
-use Rattle.ledger.specs.declared.job.Status.TheVariants.{Wounded, Ended}
-use Rattle.ledger.specs.Jobs.{is_open, now_is, where_so}
-use Rattle.ledger.specs.Walks.{Walked, has, target, must_give_way, yields, blocks}
+use Rattle.ledger.specs.declared.job.Status.TheVariants.{Ended}
+use Rattle.ledger.specs.Jobs.{is_open, now_is}
+use Rattle.ledger.specs.Walks.{Walked, target, yields}
 use Rattle.ledger.specs.Ledgers.{Layout, attempt}
 use Rattle.ledger.specs.declared.call.Answer.TheVariants.{Told, Waits}
 use Rattle.ledger.specs.Models.{Model, Served, model_hands, carried, try}
 use Rattle.ledger.proofs.Kept.{judged_self}
-use Rattle.ledger.proofs.Walking.{walk_covered, walk_same, walk_stops, walk_goes}
-use Rattle.ledger.proofs.Wounds.{where_false}
 use Rattle.tables.specs.declared.kernel.walks.Walker.{Walker}
 use Rattle.tables.specs.declared.held.Held.{Held}
 use Rattle.tables.specs.declared.grid.Grid.{Grid}
@@ -44,29 +41,13 @@ module _ (s : System) (w : Walker) where
   abbrev state : Walked Model → Status
   state r = r.left.jobs.status w.job
 
-  -- nobody gives way to itself
-  spared : (m : Model) (x : ℕ) → where_so (yields s m.jobs w.job x (wants m x)) Wounded m.jobs.status w.job ≡ m.jobs.status w.job
-  spared m x =
-      where_false (yields s m.jobs w.job x (wants m x)) Wounded m.jobs.status w.job
-      (ap must_give_way (judged_self s w.job (wants m x) w.job (own m x) refl))
-
   -- A walk leaves the state of the job that walks.
   walk_own : (xs : List ℕ) (m : Model) → state (walk_on s w xs m) ≡ m.jobs.status w.job
   walk_own [] m = refl
   walk_own (x ∷ xs) m =
+      let spared = judged_self s w.job (wants m x) w.job (own m x) refl in
       let rest : (n : Model) → state (walk_on s w xs n) ≡ n.jobs.status w.job = walk_own xs in
-      elim (cases_Bool (has s (own m x) (s.full w.kind))) [
-        | inl e ↦ ap state (walk_covered model_hands s w.kind w.goal w.job x xs m e)
-        | inr e ↦
-            elim (cases_Bool (eqb (wants m x) (own m x))) [
-              | inl f ↦ ap state (walk_same model_hands s w.kind w.goal w.job x xs m e f) ∙ rest m
-              | inr f ↦
-                  elim (cases_Bool (some_below w.job (blocks s m.jobs w.job x (wants m x)))) [
-                    | inl b ↦ ap state (walk_stops model_hands s w.kind w.goal w.job x xs m e f b) ∙ spared m x
-                    | inr b ↦ ap state (walk_goes model_hands s w.kind w.goal w.job x xs m e f b) ∙ rest _ ∙ spared m x
-                  ]
-            ]
-      ]
+      grind (arith, nat_tests, spared, rest m, rest (model_hands.wound (yields s m.jobs w.job x (wants m x)) m))
 
 -- A state written in a slot is the state of its job.
 pub turn_view :
@@ -78,8 +59,7 @@ turn_view ws seats seats' held noted k st l n s o =
     let full = (numbers_full seats) in
     model_eq (whole ws seats' held noted) (model_hands.with_jobs (now_is k st (jobs_of seats held)) (whole ws seats held noted)) o
     (λ j.
-    ap₂ (λ (ns : List ℕ) (ss : List Status). get_or ss (slot ns j) Ended) n s
-    ∙ view_set (states_of seats) Ended numbers k st ((states_full seats) ∙ sym full) (omega (arith, full)) j)
+    rw (n, s) (view_set (states_of seats) Ended numbers k st ((states_full seats) ∙ sym full) (omega (arith, full)) j))
     (λ j x. ap (λ (ns : List ℕ). cell 0 held.modes.rows (slot ns j) x) n)
     refl
     (λ j r. ap (λ (ns : List ℕ). cell Nothing noted.rows (slot ns j) r) n)

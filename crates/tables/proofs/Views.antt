@@ -1,12 +1,12 @@
 -- What a change in one slot is to the job that sits there.
-use Rattle.std.proofs.Common.{◌≡◌, ℕ, ◌<◌, ◌≤◌, true, false, eqb, List, [], length, get_or, set, replicate, sym, ap, ◌∙◌, inl, inr, arith}
+use Rattle.std.proofs.lemmas.Bool.Decides.{nat_tests}
+use Rattle.std.proofs.Common.{◌≡◌, ℕ, ◌<◌, ◌≤◌, true, false, eqb, List, [], length, get_or, set, replicate, sym, ap, ◌∙◌, arith}
 use mathlib.Core.Path.{fun_ext}
 use Rattle.std.proofs.lemmas.List.{get_or-set_same, get_or-set_other}
-use Rattle.std.proofs.lemmas.Bool.{cases_eq, cases_lt, both_ways, eq-eqb, ne_eqb}
+use Rattle.std.proofs.lemmas.Bool.{ne_eqb}
 use Rattle.granules.specs.Paths.{among}
 use Rattle.ledger.specs.declared.job.Status.TheVariants.{Ended}
 use Rattle.ledger.specs.Jobs.{is_ended, put, where_so}
-use Rattle.ledger.proofs.Piles.{put_at, put_other}
 use Rattle.tables.specs.declared.seats.Seats.{Seats}
 use Rattle.tables.specs.Grids.{cell, with_cell}
 use Rattle.tables.specs.Seats.{place, slot, distinct}
@@ -15,28 +15,16 @@ use Rattle.tables.proofs.Places.{place_at, place_among, among_place, place_own, 
 use Rattle.tables.specs.Views.{numbers_of, states_of}
 use Rattle.tables.proofs.Sitting.{numbers_full, free_at}
 
-pub slot_none : (numbers : List ℕ) (k : ℕ) → k ≡ 0 → slot numbers k ≡ length numbers
-slot_none numbers k e = let t = eq-eqb k 0 e in rw (t, slot)
-
 pub slot_some : (numbers : List ℕ) (k : ℕ) → (k ≡ 0 → ⊥) → slot numbers k ≡ place numbers k
 slot_some numbers k e = let t = ne_eqb k 0 e in rw (t, slot)
 
 -- a slot of the table has its job's number, which is not 0
 pub slot_number : (numbers : List ℕ) (k : ℕ) → slot numbers k < length numbers → (get_or numbers (slot numbers k) 0 ≡ k) × (k ≡ 0 → ⊥)
-slot_number numbers k l =
-    elim (cases_eq k 0) [
-      | inl e ↦ absurd (omega (arith, slot_none numbers k e))
-      | inr e ↦ (
-        ap (λ (i : ℕ). get_or numbers i 0) (slot_some numbers k e) ∙ place_at numbers k (omega (arith, slot_some numbers k e)),
-        e,
-      )
-    ]
+slot_number numbers k l = (grind (arith, nat_tests, place_at numbers k), λ e. grind (arith, nat_tests))
 
 -- who has a slot of the table stands in it, and the other way round
 pub slot_among : (numbers : List ℕ) (k : ℕ) → slot numbers k < length numbers → among k numbers ≡ true
-slot_among numbers k l =
-    let some = (slot_number numbers k l).1 in
-    place_among numbers k (omega (arith, slot_some numbers k some))
+slot_among numbers k l = grind (arith, nat_tests, place_among numbers k)
 
 pub among_slot : (numbers : List ℕ) (k : ℕ) → (k ≡ 0 → ⊥) → among k numbers ≡ true → slot numbers k < length numbers
 among_slot numbers k some e = omega (arith, slot_some numbers k some, among_place numbers k e)
@@ -55,60 +43,34 @@ slot_own numbers j k e l =
 
 -- whoever sits in a slot was given its number
 pub seated_given : (seats : Seats) (k : ℕ) → among k (numbers_of seats) ≡ true → k ≤ seats.opened
-seated_given seats k e =
-    elim (cases_lt seats.opened k) [
-      | inl l ↦ absurd (both_ways (among k (numbers_of seats)) (new_among seats.opened (numbers_of seats) k l seats.known) e)
-      | inr l ↦ l
-    ]
+seated_given seats k e = grind (arith, nat_tests, new_among seats.opened (numbers_of seats) k, seats.known)
 
 -- whoever sits in a slot has not ended
 pub seated_lives : (seats : Seats) (k : ℕ) → slot (numbers_of seats) k < 16 → is_ended (get_or (states_of seats) (slot (numbers_of seats) k) Ended) ≡ false
-seated_lives seats k l =
-    let n = slot_number (numbers_of seats) k (omega (arith, (numbers_full seats))) in
-    sym (free_at seats (slot (numbers_of seats) k))
-    ∙ ap (λ (j : ℕ). eqb j 0) n.0
-    ∙ ne_eqb k 0 n.1
+seated_lives seats k l = grind (arith, nat_tests, slot_number (numbers_of seats) k, numbers_full seats, free_at seats (slot (numbers_of seats) k))
 
 -- and its slot is not free
 pub not_free : (seats : Seats) (k i : ℕ) → slot (numbers_of seats) k < 16 → get_or (numbers_of seats) i 0 ≡ 0 → i ≡ slot (numbers_of seats) k → ⊥
-not_free seats k i l free e =
-    let n = slot_number (numbers_of seats) k (omega (arith, (numbers_full seats))) in
-    n.1 (sym n.0 ∙ ap (λ (j : ℕ). get_or (numbers_of seats) j 0) (sym e) ∙ free)
+not_free seats k i l free e = grind (arith, nat_tests, slot_number (numbers_of seats) k, numbers_full seats)
 
 -- A row written at the slot of job k is what job k has, and nobody else.
 pub view_set :
     {A : Type 0} (rows : List A) (d : A) (numbers : List ℕ) (k : ℕ) (v : A) → length rows ≡ length numbers → slot numbers k < length numbers
     → (j : ℕ) → get_or (set rows (slot numbers k) v) (slot numbers j) d ≡ put k v (λ i. get_or rows (slot numbers i) d) j
 view_set rows d numbers k v e l j =
-    elim (cases_eq j k) [
-      | inl s ↦
-          ap (λ (i : ℕ). get_or (set rows (slot numbers k) v) (slot numbers i) d) s
-          ∙ get_or-set_same rows (slot numbers k) v d (omega arith)
-          ∙ sym (put_at k v (λ i. get_or rows (slot numbers i) d) j s)
-      | inr s ↦
-          get_or-set_other rows (slot numbers k) (slot numbers j) v d (λ (z : slot numbers j ≡ slot numbers k). s (slot_own numbers j k z l))
-          ∙ sym (put_other k v (λ i. get_or rows (slot numbers i) d) j s)
-    ]
+    grind (
+      arith,
+      nat_tests,
+      get_or-set_same rows (slot numbers k) v d,
+      get_or-set_other rows (slot numbers k) (slot numbers j) v d,
+      slot_own numbers j k,
+    )
 
 -- The same, cell by cell.
 pub view_row :
     {A : Type 0} (rows : List (List A)) (d : A) (numbers : List ℕ) (k : ℕ) (row : List A) → length rows ≡ length numbers → slot numbers k < length numbers
     → (j x : ℕ) → cell d (set rows (slot numbers k) row) (slot numbers j) x ≡ put {A = ℕ → A} k (λ y. get_or row y d) (λ i y. cell d rows (slot numbers i) y) j x
-view_row {A} rows d numbers k row e l j x = ap (λ (r : List A). get_or r x d) (view_set rows [] numbers k row e l j) ∙ at_row
-  where
-    own : ℕ → List A
-    own i = get_or rows (slot numbers i) []
-
-    at_row : get_or (put k row own j) x d ≡ put {A = ℕ → A} k (λ y. get_or row y d) (λ i y. get_or (own i) y d) j x
-    at_row =
-        elim (cases_eq j k) [
-          | inl s ↦
-              ap (λ (r : List A). get_or r x d) (put_at k row own j s)
-              ∙ sym (ap (λ (f : ℕ → A). f x) (put_at {A = ℕ → A} k (λ y. get_or row y d) (λ i y. get_or (own i) y d) j s))
-          | inr s ↦
-              ap (λ (r : List A). get_or r x d) (put_other k row own j s)
-              ∙ sym (ap (λ (f : ℕ → A). f x) (put_other {A = ℕ → A} k (λ y. get_or row y d) (λ i y. get_or (own i) y d) j s))
-        ]
+view_row {A} rows d numbers k row e l j x = ap (λ (r : List A). get_or r x d) (view_set rows [] numbers k row e l j) ∙ grind (arith, nat_tests)
 
 -- An empty row written at the slot of job k leaves job k empty, and nobody else changed.
 pub view_wiped :
@@ -128,15 +90,7 @@ pub view_cell :
     → cell d (with_cell rows (slot numbers k) x v) (slot numbers j) y
     ≡ put {A = ℕ → A} k (put x v (cell d rows (slot numbers k))) (λ i z. cell d rows (slot numbers i) z) j y
 view_cell {A} rows d numbers k x v e l h j y =
+    let row = get_or rows (slot numbers k) [] in
     view_row rows d numbers k (set row x v) e l j y
-    ∙ ap (λ (f : ℕ → A). put {A = ℕ → A} k f (λ i z. cell d rows (slot numbers i) z) j y) (fun_ext written)
-  where
-    row : List A
-    row = get_or rows (slot numbers k) []
-
-    written : (z : ℕ) → get_or (set row x v) z d ≡ put x v (λ z. get_or row z d) z
-    written z =
-        elim (cases_eq z x) [
-          | inl s ↦ ap (λ (i : ℕ). get_or (set row x v) i d) s ∙ get_or-set_same row x v d h ∙ sym (put_at x v (λ z. get_or row z d) z s)
-          | inr s ↦ get_or-set_other row x z v d s ∙ sym (put_other x v (λ z. get_or row z d) z s)
-        ]
+    ∙ ap (λ (f : ℕ → A). put {A = ℕ → A} k f (λ i z. cell d rows (slot numbers i) z) j y)
+    (fun_ext (λ z. grind (arith, nat_tests, get_or-set_same row x v d h, get_or-set_other row x z v d)))

@@ -1,14 +1,14 @@
 -- Jobs wounded one after the other, the oldest first, are wounded as the model has it.
-use Rattle.std.proofs.Common.{◌≡◌, ℕ, zero, suc, ◌<◌, ◌≤◌, Bool, true, false, ◌&&◌, eqb, ltb, List, length, get_or, set, replicate, sym, refl, ap, ◌∙◌, subst, ap₂, inl, inr, arith}
+use Rattle.std.proofs.lemmas.Bool.Decides.{nat_tests}
+use Rattle.std.proofs.Common.{◌≡◌, ℕ, zero, suc, ◌<◌, ◌≤◌, Bool, true, false, ◌&&◌, eqb, ltb, List, length, set, replicate, sym, refl, ap, ◌∙◌, ap₂, inl, inr, arith}
 use mathlib.Core.Path.{fun_ext}
-use Rattle.std.proofs.lemmas.Bool.{cases_eq, cases_lt, cases_Bool, and_from, and_left, and_right, lt-ltb, le-ltb, eq-eqb, ne_eqb}
+use Rattle.std.proofs.lemmas.Bool.{cases_eq}
 use Rattle.ledger.specs.declared.job.Note.{Note}
 use Rattle.ledger.specs.declared.job.Note.TheVariants.{Nothing}
 use Rattle.ledger.specs.declared.job.Status.{Status}
 use Rattle.ledger.specs.declared.job.Status.TheVariants.{Wounded, Ended}
 use Rattle.ledger.specs.Jobs.{where_so, wound_jobs}
 use Rattle.ledger.specs.Models.{Model, model_hands, taken_back, all_taken_back}
-use Rattle.ledger.proofs.Wounds.{where_true, where_false, where_cong}
 use Rattle.tables.specs.declared.kernel.Core.{Core}
 use Rattle.tables.specs.Grids.{cell}
 use Rattle.tables.specs.Seats.{slot}
@@ -22,11 +22,9 @@ pub model_eq :
     (m n : Model) → m.jobs.opened ≡ n.jobs.opened → ((k : ℕ) → m.jobs.status k ≡ n.jobs.status k)
     → ((k x : ℕ) → m.jobs.mode k x ≡ n.jobs.mode k x) → m.words ≡ n.words → ((k r : ℕ) → m.notes k r ≡ n.notes k r) → m ≡ n
 model_eq m n o s d w t =
-    ap (λ (a : ℕ). mk a m.jobs.status m.jobs.mode m.words m.notes) o
-    ∙ ap (λ (a : ℕ → Status). mk n.jobs.opened a m.jobs.mode m.words m.notes) (fun_ext s)
-    ∙ ap (λ (a : ℕ → ℕ → ℕ). mk n.jobs.opened n.jobs.status a m.words m.notes) (fun_ext (λ k. fun_ext (d k)))
-    ∙ ap (λ (a : List ℕ). mk n.jobs.opened n.jobs.status n.jobs.mode a m.notes) w
-    ∙ ap (λ (a : ℕ → ℕ → Note). mk n.jobs.opened n.jobs.status n.jobs.mode n.words a) (fun_ext (λ k. fun_ext (t k)))
+    ap₂ (λ (a : ℕ) (b : ℕ → Status). mk a b m.jobs.mode m.words m.notes) o (fun_ext s)
+    ∙ ap₂ (λ (a : ℕ → ℕ → ℕ) (b : List ℕ). mk n.jobs.opened n.jobs.status a b m.notes) (fun_ext (λ k. fun_ext (d k))) w
+    ∙ ap (mk n.jobs.opened n.jobs.status n.jobs.mode n.words) (fun_ext (λ k. fun_ext (t k)))
   where
     mk : ℕ → (ℕ → Status) → (ℕ → ℕ → ℕ) → List ℕ → (ℕ → ℕ → Note) → Model
     mk a b c d e = record { jobs = record { opened = a; status = b; mode = c }; words = d; notes = e }
@@ -45,77 +43,47 @@ wound_view words c c' k l w n s o h t =
     let within : slot numbers k < length numbers = omega (arith, full) in
     model_eq (model words c') (wounded_one k (model words c)) o
     (λ j.
-    ap₂ (λ (ns : List ℕ) (ss : List Status). get_or ss (slot ns j) Ended) n s
-    ∙ view_set (states_of c.seats) Ended numbers k Wounded ((states_full c.seats) ∙ sym full) within j)
+    rw (n, s) (view_set (states_of c.seats) Ended numbers k Wounded ((states_full c.seats) ∙ sym full) within j))
     (λ j x.
-    ap₂ (λ (ns : List ℕ) (rows : List (List ℕ)). cell 0 rows (slot ns j) x) n h
-    ∙ view_wiped c.held.modes.rows 0 numbers k (c.held.modes.full ∙ sym full) within j x)
+    rw (n, h) (view_wiped c.held.modes.rows 0 numbers k (c.held.modes.full ∙ sym full) within j x))
     w
     (λ j r.
-    ap₂ (λ (ns : List ℕ) (rows : List (List Note)). cell Nothing rows (slot ns j) r) n t
-    ∙ view_wiped c.noted.rows Nothing numbers k (c.noted.full ∙ sym full) within j r)
+    rw (n, t) (view_wiped c.noted.rows Nothing numbers k (c.noted.full ∙ sym full) within j r))
 
 -- those below n that the test picks
 abbrev pub upto : (ℕ → Bool) → ℕ → ℕ → Bool
 upto p n k = p k && ltb k n
 
+-- those that the test picks wounded, with these words left
+abbrev wounded_as : Model → (ℕ → Bool) → List ℕ → Model
+wounded_as m q ws = record { jobs = wound_jobs q m.jobs; words = ws; notes = where_so q (λ _. Nothing) m.notes }
+
 abbrev pub wounded_upto : (ℕ → Bool) → ℕ → Model → Model
-wounded_upto p n m =
-    record {
-      jobs = wound_jobs (upto p n) m.jobs;
-      words = all_taken_back p m.notes n m.words;
-      notes = where_so (upto p n) (λ _. Nothing) m.notes;
-    }
+wounded_upto p n m = wounded_as m (upto p n) (all_taken_back p m.notes n m.words)
 
 module _ (p : ℕ → Bool) where
-  pub upto_here : (n : ℕ) → upto p n n ≡ false
-  upto_here n = and_right (p n) (ltb n n) (le-ltb n n (omega arith))
-
   -- where the test picks nobody one may go on
   upto_skip : (n m : ℕ) → n ≤ m → ((k : ℕ) → n ≤ k → k < m → p k ≡ false) → (k : ℕ) → upto p n k ≡ upto p m k
-  upto_skip n m l h k =
-      elim (cases_lt k n) [
-        | inl a ↦ ap (λ (b : Bool). p k && b) (lt-ltb k n a ∙ sym (lt-ltb k m (omega arith)))
-        | inr a ↦
-            elim (cases_lt k m) [
-              | inl b ↦ and_left (p k) (ltb k n) (h k a b) ∙ sym (and_left (p k) (ltb k m) (h k a b))
-              | inr b ↦ ap (λ (c : Bool). p k && c) (le-ltb k n a ∙ sym (le-ltb k m b))
-            ]
-      ]
+  upto_skip n m l h k = grind (arith, nat_tests, h k)
 
   back_skip :
       (notes : ℕ → ℕ → Note) (ws : List ℕ) (n m : ℕ) → n ≤ m → ((k : ℕ) → n ≤ k → k < m → p k ≡ false)
       → all_taken_back p notes n ws ≡ all_taken_back p notes m ws
-  back_skip notes ws n zero l h = ap (λ (x : ℕ). all_taken_back p notes x ws) (zero_is l)
-    where
-      zero_is : n ≤ 0 → n ≡ 0
-      zero_is l = omega arith
+  back_skip notes ws n zero l h = grind arith
   back_skip notes ws n (suc m) l h =
       elim (cases_eq n (suc m)) [
-        | inl e ↦ ap (λ (x : ℕ). all_taken_back p notes x ws) e
-        | inr e ↦
-            let q = h m (omega arith) (omega arith) in
-            let step : all_taken_back p notes (suc m) ws ≡ all_taken_back p notes m ws = rw (q, all_taken_back) in
-            back_skip notes ws n m (omega arith) (λ k a b. h k a (omega arith)) ∙ sym step
+        | inl e ↦ cc e
+        | inr e ↦ grind (arith, h m (omega arith) (omega arith), back_skip notes ws n m (omega arith) (λ k a b. h k a (omega arith)))
       ]
 
   pub skip : (m : Model) (n n' : ℕ) → n ≤ n' → ((k : ℕ) → n ≤ k → k < n' → p k ≡ false) → wounded_upto p n m ≡ wounded_upto p n' m
-  skip m n n' l h =
-      model_eq (wounded_upto p n m) (wounded_upto p n' m) refl
-      (λ k. where_cong (upto p n) (upto p n') Wounded m.jobs.status k (upto_skip n n' l h k))
-      (λ k x. ap (λ (f : ℕ → ℕ). f x) (where_cong (upto p n) (upto p n') (λ _. 0) m.jobs.mode k (upto_skip n n' l h k)))
-      (back_skip m.notes m.words n n' l h)
-      (λ k r. ap (λ (f : ℕ → Note). f r) (where_cong (upto p n) (upto p n') (λ _. Nothing) m.notes k (upto_skip n n' l h k)))
+  skip m n n' l h = ap₂ (wounded_as m) (fun_ext (upto_skip n n' l h)) (back_skip m.notes m.words n n' l h)
 
   -- nobody wounded yet
   pub start : (m : Model) (n : ℕ) → ((k : ℕ) → k < n → p k ≡ false) → m ≡ wounded_upto p n m
   start m n h =
-      let none : (k : ℕ) → upto p 0 k ≡ false = λ k. and_right (p k) (ltb k 0) (le-ltb k 0 (omega arith)) in
-      model_eq m (wounded_upto p 0 m) refl
-      (λ k. sym (where_false (upto p 0) Wounded m.jobs.status k (none k)))
-      (λ k x. sym (ap (λ (f : ℕ → ℕ). f x) (where_false (upto p 0) (λ _. 0) m.jobs.mode k (none k))))
-      refl
-      (λ k r. sym (ap (λ (f : ℕ → Note). f r) (where_false (upto p 0) (λ _. Nothing) m.notes k (none k))))
+      model_eq m (wounded_upto p 0 m) refl (λ k. grind (arith, nat_tests)) (λ k x. grind (arith, nat_tests)) refl
+      (λ k r. grind (arith, nat_tests))
       ∙ skip m 0 n (omega arith) (λ k a b. h k b)
 
   -- one more
@@ -124,45 +92,15 @@ module _ (p : ℕ → Bool) where
       model_eq (wounded_one n (wounded_upto p n m)) (wounded_upto p (suc n) m) refl
       (λ k. over Wounded m.jobs.status k)
       (λ k x. ap (λ (f : ℕ → ℕ). f x) (over (λ _. 0) m.jobs.mode k))
-      (ap (λ (f : ℕ → Note). taken_back f (all_taken_back p m.notes n m.words)) (where_false (upto p n) (λ _. Nothing) m.notes n (upto_here n))
-      ∙ sym (rw (q, all_taken_back)))
+      (grind (arith, nat_tests, q))
       (λ k r. ap (λ (f : ℕ → Note). f r) (over (λ _. Nothing) m.notes k))
     where
       over : {A : Type 0} (a : A) (f : ℕ → A) (k : ℕ) → where_so (λ j. eqb j n) a (where_so (upto p n) a f) k ≡ where_so (upto p (suc n)) a f k
-      over a f k =
-          elim (cases_eq k n) [
-            | inl e ↦
-                where_true (λ j. eqb j n) a (where_so (upto p n) a f) k (eq-eqb k n e)
-                ∙ sym
-                (where_true (upto p (suc n)) a f k
-                (and_from (p k) (ltb k (suc n)) (subst (λ (x : ℕ). p x ≡ true) (sym e) q) (lt-ltb k (suc n) (omega arith))))
-            | inr e ↦
-                where_false (λ j. eqb j n) a (where_so (upto p n) a f) k (ne_eqb k n e)
-                ∙ where_cong (upto p n) (upto p (suc n)) a f k
-                (ap (λ (b : Bool). p k && b)
-                (elim (cases_lt k n) [
-                  | inl l ↦ lt-ltb k n l ∙ sym (lt-ltb k (suc n) (omega arith))
-                  | inr l ↦ le-ltb k n l ∙ sym (le-ltb k (suc n) (omega arith))
-                ]))
-          ]
+      over a f k = grind (arith, nat_tests, q)
 
   -- all of them
   pub all : (m : Model) (n : ℕ) → suc m.jobs.opened ≤ n → ((k : ℕ) → p k ≡ true → k < suc m.jobs.opened) → wounded_upto p n m ≡ model_hands.wound p m
   all m n l h =
       let last = suc m.jobs.opened in
-      let none : (k : ℕ) → last ≤ k → p k ≡ false =
-      λ k a. elim (cases_Bool (p k)) [ inl t ↦ absurd (omega (arith, h k t)) | inr t ↦ t ]
-      in
-      let same : (k : ℕ) → upto p last k ≡ p k =
-      λ k.
-      elim (cases_Bool (p k)) [
-        | inl t ↦ and_from (p k) (ltb k last) t (lt-ltb k last (h k t)) ∙ sym t
-        | inr t ↦ and_left (p k) (ltb k last) t ∙ sym t
-      ]
-      in
-      sym (skip m last n l (λ k a b. none k a))
-      ∙ model_eq (wounded_upto p last m) (model_hands.wound p m) refl
-      (λ k. where_cong (upto p last) p Wounded m.jobs.status k (same k))
-      (λ k x. ap (λ (f : ℕ → ℕ). f x) (where_cong (upto p last) p (λ _. 0) m.jobs.mode k (same k)))
-      refl
-      (λ k r. ap (λ (f : ℕ → Note). f r) (where_cong (upto p last) p (λ _. Nothing) m.notes k (same k)))
+      sym (skip m last n l (λ k a b. grind (arith, nat_tests, h k)))
+      ∙ ap (λ (f : ℕ → Bool). wounded_as m f (all_taken_back p m.notes last m.words)) (fun_ext (λ k. grind (arith, nat_tests, h k)))

@@ -1,47 +1,34 @@
-use Rattle.std.proofs.Common.{◌≡◌, ℕ, ◌+◌, ◌<◌, ◌≤◌, List, length, set, replicate, sym, ap, ◌∙◌, subst, arith}
+use Rattle.std.proofs.Common.{◌≡◌, ℕ, ◌+◌, ◌<◌, length, set, replicate, ◌∙◌, arith}
 use Rattle.std.proofs.lemmas.List.{set-set}
-use Rattle.tables.specs.Grids.{cell, with_cell}
-use Rattle.tables.specs.declared.seat.Seat.{Seat}
-use Rattle.tables.specs.declared.held.Held.{Held}
+use Rattle.tables.specs.Grids.{cell}
 use Rattle.tables.proofs.Grids.{long_at, wiped_more, wiped_all}
+use Rattle.tables.proofs.held.Held.wipe.Goals.{After-release, at-loop-granule-preserved, at-returns-2}
 use Rattle.tables.proofs.held.Held.wipe.Goals as goal
 
-module _ (start : List (List ℕ)) (t t' : Held) (seat : Seat) (x : ℕ) (near : x < 256)
-    (step : t'.modes.rows ≡ with_cell t.modes.rows seat.slot x 0)
-    (only : set t.modes.rows seat.slot (replicate 256 0) ≡ set start seat.slot (replicate 256 0))
-    (free : (y : ℕ) → y < x → cell 0 t.modes.rows seat.slot y ≡ 0) where
-  within : seat.slot < length t.modes.rows
-  within = omega (arith, t.modes.full, seat.within)
+-- one cell more is wiped, and nothing else
+wiped : (c : After-release) → (y : ℕ) → y < c.loop-granule.granule + 1 → cell 0 c.release.new.self.modes.rows c.args.seat.slot y ≡ 0
+wiped c =
+    let t = c.loop-granule.self in
+    let within : c.args.seat.slot < length t.modes.rows = omega (arith, t.modes.full, c.args.seat.within) in
+    let near = long_at 256 t.modes.rows c.args.seat.slot within t.modes.long in
+    rw c.release.ensures.rows
+    (wiped_more 0 t.modes.rows c.args.seat.slot c.loop-granule.granule within (omega (arith, near, c.loop-granule-test.true)) c.loop-granule.invariant.1)
 
-  only_more : set t'.modes.rows seat.slot (replicate 256 0) ≡ set start seat.slot (replicate 256 0)
-  only_more = ap (λ (rows : List (List ℕ)). set rows seat.slot (replicate 256 0)) step ∙ set-set t.modes.rows seat.slot _ _ ∙ only
-
-  free_more : (y : ℕ) → y < x + 1 → cell 0 t'.modes.rows seat.slot y ≡ 0
-  free_more =
-      subst (λ (rows : List (List ℕ)). (y : ℕ) → y < x + 1 → cell 0 rows seat.slot y ≡ 0) (sym step)
-      (wiped_more 0 t.modes.rows seat.slot x within (omega (arith, long_at 256 t.modes.rows seat.slot within t.modes.long, near)) free)
-
-  done : 256 ≤ x + 1 → t'.modes.rows ≡ set start seat.slot (replicate 256 0)
-  done h =
-      wiped_all 0 t'.modes.rows seat.slot
-      (long_at 256 t'.modes.rows seat.slot (omega (arith, t'.modes.full, seat.within)) t'.modes.long)
-      (λ y k. free_more y (omega (arith, h)))
-      ∙ only_more
+only :
+    (c : After-release)
+    → set c.release.new.self.modes.rows c.args.seat.slot (replicate 256 0) ≡ set c.args.self.now.modes.rows c.args.seat.slot (replicate 256 0)
+only c = rw c.release.ensures.rows (set-set c.loop-granule.self.modes.rows c.args.seat.slot _ _ ∙ c.loop-granule.invariant.0)
 
 pub loop-granule-preserved : goal.loop-granule-preserved
-loop-granule-preserved c =
-    let inv = c.loop-granule.invariant in (
-      only_more c.args.self.now.modes.rows c.loop-granule.self c.release.new.self c.args.seat c.loop-granule.granule (omega (arith, c.loop-granule-test.true))
-          c.release.ensures.rows inv.0 inv.1,
-      free_more c.args.self.now.modes.rows c.loop-granule.self c.release.new.self c.args.seat c.loop-granule.granule (omega (arith, c.loop-granule-test.true))
-          c.release.ensures.rows inv.0 inv.1,
-    )
+loop-granule-preserved c = let r = (at-loop-granule-preserved c).After-release in (only r, wiped r)
 
 pub returns-2 : goal.returns-2
 returns-2 c =
-    let inv = c.loop-granule.invariant in
+    let r = (at-returns-2 c).After-release in
+    let rows = c.release.new.self.modes.rows in
+    let within : c.args.seat.slot < length rows = omega (arith, c.release.new.self.modes.full, c.args.seat.within) in
     record {
       rows =
-          done c.args.self.now.modes.rows c.loop-granule.self c.release.new.self c.args.seat c.loop-granule.granule (omega (arith, c.loop-granule-test.true))
-          c.release.ensures.rows inv.0 inv.1 (omega arith);
+          wiped_all 0 rows c.args.seat.slot (long_at 256 rows c.args.seat.slot within c.release.new.self.modes.long) (λ y k. wiped r y (omega arith))
+          ∙ only r;
     }

@@ -1,4 +1,4 @@
-use Rattle.std.proofs.Common.{List, sym, ap, ◌∙◌, ap₂}
+use Rattle.std.proofs.Common.{sym, ap, ◌∙◌, ap₂}
 use Rattle.granules.specs.Trees.{table}
 use Rattle.ledger.specs.declared.job.Note.{Note}
 use Rattle.ledger.specs.declared.job.Note.TheVariants.{Nothing}
@@ -6,7 +6,7 @@ use Rattle.tables.specs.declared.held.Held.{Held}
 use Rattle.tables.specs.declared.grid.Grid.{Grid}
 use Rattle.tables.specs.declared.seats.Seats.{Seats}
 use Rattle.tables.specs.Views.{whole}
-use Rattle.tables.specs.Grids.{cell, is_nothing}
+use Rattle.tables.specs.Grids.{is_nothing}
 use Rattle.tables.proofs.Grids.{other_cell}
 use Rattle.tables.proofs.Notes.{carry_view}
 use Rattle.tables.proofs.Views.{not_free}
@@ -18,10 +18,10 @@ invariant_of-self g c =
     record {
       unlocked = t.unlocked;
       unnoted = λ i x free.
-          ap (λ (rows : List (List Note)). is_nothing (cell Nothing rows i x)) c.note.ensures.others
-          ∙ ap is_nothing
+          rw c.note.ensures.others
+          (ap is_nothing
           (other_cell Nothing t.noted.rows _ _ i x (λ e. not_free t.seats c.args.job i c.requires free (e ∙ c.seat-seat.ensures.value)))
-          ∙ t.unnoted i x free;
+          ∙ t.unnoted i x free);
     }
 
 pub returns : goal.returns

@@ -12,7 +12,13 @@ use Rattle.tables.proofs.Counts.{all_taken, one_free}
 use Rattle.tables.proofs.Places.{place_at, place_bound}
 use Rattle.tables.proofs.Sitting.{numbers_full, seated_at, seated_none}
 use Rattle.tables.proofs.Table.{denied, admitted, open_full, open_spent, open_free}
+use Rattle.tables.proofs.kernel.Core.open.Goals.{In-Some, at-returns, at-returns-then-opened-ge1000000, at-seat-requires}
 use Rattle.tables.proofs.kernel.Core.open.Goals as goal
+
+-- the seat that is found is the first that is free
+found :
+    (g : _) (c : In-Some g) → (place (numbers_of c.args.self.now.seats) 0 < 16) × (place (numbers_of c.args.self.now.seats) 0 ≡ c.in-Some.seat.slot)
+found g c = seated_at _ _ (ap (option_map (λ (s : Seat). s.slot)) (sym c.in-Some.is) ∙ c.free_seat.ensures.value)
 
 pub returns-in_default : goal.returns-in_default
 returns-in_default g c =
@@ -29,7 +35,7 @@ returns-in_default g c =
 pub returns-then-opened-ge1000000 : goal.returns-then-opened-ge1000000
 returns-then-opened-ge1000000 g c =
     let t = c.args.self.now in
-    let room : place (numbers_of t.seats) 0 < 16 = (seated_at (place (numbers_of t.seats) 0) c.in-Some.seat.slot (ap (option_map (λ (s : Seat). s.slot)) (sym c.in-Some.is) ∙ c.free_seat.ensures.value)).0 in
+    let room = (found g (at-returns-then-opened-ge1000000 g c).In-Some).0 in
     record {
       served =
           λ y.
@@ -41,7 +47,7 @@ returns-then-opened-ge1000000 g c =
 pub seat-requires : goal.seat-requires
 seat-requires g c =
     let t = c.args.self.now.seats in
-    let here = seated_at (place (numbers_of t) 0) c.in-Some.seat.slot (ap (option_map (λ (s : Seat). s.slot)) (sym c.in-Some.is) ∙ c.free_seat.ensures.value) in
+    let here = found g (at-seat-requires g c).In-Some in
     record {
       vacant =
           ap (λ (i : ℕ). get_or (numbers_of t) i 0) (sym here.1)
@@ -52,7 +58,7 @@ seat-requires g c =
 pub returns : goal.returns
 returns g c =
     let t = c.args.self.now in
-    let room : place (numbers_of t.seats) 0 < 16 = (seated_at (place (numbers_of t.seats) 0) c.in-Some.seat.slot (ap (option_map (λ (s : Seat). s.slot)) (sym c.in-Some.is) ∙ c.free_seat.ensures.value)).0 in
+    let room = (found g (at-returns g c).In-Some).0 in
     record {
       served =
           λ y.

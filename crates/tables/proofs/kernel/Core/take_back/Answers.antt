@@ -1,14 +1,14 @@
-use Rattle.std.proofs.Common.{◌≡◌, ℕ, ◌+◌, List, [], get_or, set, refl, ap, ◌∙◌, arith}
+use Rattle.std.proofs.Common.{◌≡◌, ℕ, ◌+◌, [], get_or, refl, ap, ◌∙◌, arith}
 use Rattle.ledger.specs.declared.job.Note.{Note}
 use Rattle.ledger.specs.declared.job.Note.TheVariants.{Nothing}
 use Rattle.ledger.specs.Models.{back}
 use Rattle.std.proofs.lemmas.List.{get_or_past}
-use Rattle.tables.specs.declared.grid.Grid.{Grid}
 use Rattle.tables.specs.Grids.{cell}
 use Rattle.tables.proofs.Grids.{long_at}
 use Rattle.operations.proofs.Sweeps.{sweep_from, sweep_more, sweep_all}
 use Rattle.operations.specs.Words.{each_from}
 use Rattle.operations.proofs.Sweeps.{swept}
+use Rattle.tables.proofs.kernel.Core.take_back.Goals.{After-take_back_at, at-loop-place-preserved, at-returns-2}
 use Rattle.tables.proofs.kernel.Core.take_back.Goals as goal
 
 pub loop-place-init : goal.loop-place-init
@@ -22,21 +22,19 @@ loop-place-init g c = (
 
 -- the words after one place more
 next :
-    (rows rows' : List (List Note)) (ws now new : List ℕ) (i r : ℕ) → new ≡ set now r (back (cell Nothing rows' i r) (get_or now r 0)) → rows' ≡ rows
-    → now ≡ each_from 0 (swept r (λ k w. back (cell Nothing rows i k) w)) ws
-    → new ≡ each_from 0 (swept (r + 1) (λ k w. back (cell Nothing rows i k) w)) ws
-next rows rows' ws now new i r e same inv =
-    let f : ℕ → ℕ → ℕ = λ k w. back (cell Nothing rows i k) w in
-    e
-    ∙ ap (λ (x : List (List Note)). set now r (back (cell Nothing x i r) (get_or now r 0))) same
-    ∙ ap (λ (xs : List ℕ). set xs r (f r (get_or xs r 0))) inv
-    ∙ sweep_more r f ws
+    (g : _) (c : After-take_back_at g)
+    → g.S.Shelf.words c.take_back_at.new.self.shelf
+    ≡ each_from 0 (swept (c.loop-place.place + 1) (λ k w. back (cell Nothing c.args.self.now.noted.rows c.args.seat.slot k) w)) (g.S.Shelf.words c.args.self.now.shelf)
+next g c =
+    let inv = c.loop-place.invariant in
+    c.take_back_at.ensures.words
+    ∙ rw (inv.3, inv.0)
+    (sweep_more c.loop-place.place (λ k w. back (cell Nothing c.args.self.now.noted.rows c.args.seat.slot k) w) (g.S.Shelf.words c.args.self.now.shelf))
 
 pub loop-place-preserved : goal.loop-place-preserved
 loop-place-preserved g c =
     let inv = c.loop-place.invariant in (
-      next c.args.self.now.noted.rows c.loop-place.self.noted.rows (g.S.Shelf.words c.args.self.now.shelf) (g.S.Shelf.words c.loop-place.self.shelf) _
-          c.args.seat.slot c.loop-place.place c.take_back_at.ensures.words (ap (λ (n : Grid Note). n.rows) inv.3) inv.0,
+      next g (at-loop-place-preserved g c).After-take_back_at,
       c.take_back_at.ensures.seats ∙ inv.1,
       c.take_back_at.ensures.held ∙ inv.2,
       c.take_back_at.ensures.noted ∙ inv.3,
@@ -49,8 +47,7 @@ returns-2 g c =
     let f : ℕ → ℕ → ℕ = λ r w. back (cell Nothing start.noted.rows c.args.seat.slot r) w in
     record {
       words =
-          next c.args.self.now.noted.rows c.loop-place.self.noted.rows (g.S.Shelf.words c.args.self.now.shelf) (g.S.Shelf.words c.loop-place.self.shelf) _
-          c.args.seat.slot c.loop-place.place c.take_back_at.ensures.words (ap (λ (n : Grid Note). n.rows) inv.3) inv.0
+          next g (at-returns-2 g c).After-take_back_at
           ∙ sweep_all (c.loop-place.place + 1) f (g.S.Shelf.words start.shelf)
           (λ k w h.
           ap (λ (n : Note). back n w)

@@ -15,8 +15,7 @@ invariant_of-self g c =
     in
     record {
       unlocked = λ i x free.
-          ap (λ (rows : List (List ℕ)). cell 0 rows i x) c.wipe.ensures.rows
-          ∙ wiped_stays 0 t.held.modes.rows c.args.seat.slot (λ v. v ≡ 0) vacant refl (λ j y e. t.unlocked j y) i x (before i free);
+          rw c.wipe.ensures.rows (wiped_stays 0 t.held.modes.rows c.args.seat.slot (λ v. v ≡ 0) vacant refl (λ j y e. t.unlocked j y) i x (before i free));
       unnoted = λ i x free.
           ap (λ (rows : List (List Note)). is_nothing (cell Nothing rows i x)) c.fill.ensures.rows
           ∙ wiped_stays Nothing t.noted.rows c.args.seat.slot (λ v. is_nothing v ≡ true) vacant refl (λ j y e. t.unnoted j y) i x (before i free);

@@ -1,4 +1,4 @@
-use Rattle.std.proofs.Common.{◌≡◌, ℕ, ◌<◌, ◌≤◌, List, [], set, length, get_or, unwrap_or, Option, sym, ap, ap₂, ◌∙◌, subst, arith}
+use Rattle.std.proofs.Common.{◌≡◌, ℕ, ◌<◌, ◌≤◌, List, length, get_or, unwrap_or, Option, sym, ap, ap₂, ◌∙◌, arith}
 use Rattle.std.proofs.lemmas.List.{map-id}
 use Rattle.std.proofs.lemmas.List.Sums.{fold_push}
 use Rattle.std.proofs.lemmas.Iterator.Consumers.{YieldsList-at, YieldsList-from_first, YieldsList-turn, YieldsList-end}
@@ -67,6 +67,6 @@ returns g c =
     let long = long_at 256 t.rows s within t.long in
     let few : length ps ≤ 256 = omega (arith, size c.args.tree.now, c.args.tree.now.few) in
     record {
-      others = subst (λ (rows : List (List Note)). rows ≡ set t.rows s (get_or rows s [])) (sym now) (noted_only ps o ws s t.rows within long few);
-      notes = λ r. ap (λ (rows : List (List Note)). cell Nothing rows s r) now ∙ noted_all ps o ws s t.rows within long few r;
+      others = rw now (noted_only ps o ws s t.rows within long few);
+      notes = λ r. rw now (noted_all ps o ws s t.rows within long few r);
     }
