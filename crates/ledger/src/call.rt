@@ -5,7 +5,8 @@ use operations::{Operation, Outcome};
 // A job is known by its number. Numbers are given from 1 on, so that the smaller number is the older job.
 #[derive(Clone, Copy)]
 pub enum Call<'a> {
-    // lays the engine out: a parents table and first words, one of each for a granule
+    // lays the engine out: a parents table and first words, one of each for a granule; two slices, since a caller may give
+    // of one more than of the other, and is then refused
     Lay(&'a [u32], &'a [u32]),
     // opens a job
     Open,

@@ -28,7 +28,8 @@ fn total<S: Shelf>(tree: &Tree, shelf: &S, granule: usize) -> u64
         .sum()
 }
 
-// What a read answers: the sum of the words of the records beneath a granule, and how many records there are.
+// What a read answers: the sum of the words of the records beneath a granule, and how many records there are. A pair: the
+// outcome of a read, which it becomes at once, names the two.
 pub fn figures<S: Shelf>(tree: &Tree, shelf: &S, granule: usize) -> (u64, u32)
     ensures sum { result.0 ≡ sum (table tree.now) (S.Shelf.words shelf.now) granule }
     ensures count { result.1 ≡ records_beneath (table tree.now) granule }

@@ -64,13 +64,14 @@ impl Tree {
     pub fn path(&self, granule: usize) -> Path
         ensures value { steps result ≡ (if nat_lt granule 256 then path (table self.now) granule else 0 ∷ []) }
     {
-        if granule == 0 || granule > 255 {
-            return Path::root();
+        match u8::try_from(granule) {
+            Ok(last) if last != 0 => self.path(self.parent(granule)).then(last),
+            _ => Path::root(),
         }
-        self.path(self.parent(granule)).then(granule as u8)
     }
 
-    // Where records beneath a granule can lie: from the first number up to the second, which is not among them.
+    // Where records beneath a granule can lie: from the first number up to the second, which is not among them. A pair: a
+    // `Range` would hold the same two numbers, and be used up by who asks twice.
     #[tactic(auto, using(crate::proofs::Kept::spans))]
     pub fn span(&self, granule: usize) -> (usize, usize)
         ensures value { result ≡ span (table self.now) granule }

@@ -65,6 +65,7 @@ fn kept(parents: &[u32]) -> [Node; 256]
     }; 256];
     // By number: a `zip` with `iter_mut` would leave an invariant about cells that are lent.
     for (g, p) in parents.iter().enumerate() {
+        // A parent is below its granule, so it fits.
         nodes[g].parent = *p as u8;
     }
     for p in parents.iter().skip(1) {

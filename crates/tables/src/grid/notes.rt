@@ -31,6 +31,7 @@ impl Grid<Note> {
         let granule = operation.granule as usize;
         for record in tree.records(granule) {
             let word = shelf.get(record).unwrap_or(0);
+            // It fits: `try_from` would add a case that cannot be.
             let place = record as u8;
             let note = self.get(seat, place).noted(operation.action, word);
             self.put(seat, place, note);

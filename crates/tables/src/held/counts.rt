@@ -25,7 +25,7 @@ pub(super) fn moved(mut counts: [u8; 16], from: u8, to: u8) -> [u8; 16]
     counts
 }
 
-// A mode if somebody is counted there, else no lock.
+// A mode if somebody is counted there, else no lock. Below 16, it fits.
 fn if_held(count: u8, mode: usize) -> u8
     requires { mode < 16 }
     ensures value { result ≡ (if nat_eq count 0 then 0 else mode) }

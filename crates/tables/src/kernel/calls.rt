@@ -88,6 +88,7 @@ impl<M: ModeSystem, S: Shelf> Core<M, S> {
         if !tree.has(granule) {
             return Err(Refusal::NoSuchGranule);
         }
+        // A granule of a tree is below 256, so it fits: `try_from` would add a case that cannot be.
         Ok(self.head(granule as u8))
     }
 }

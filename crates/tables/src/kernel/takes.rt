@@ -17,7 +17,8 @@ use ledger::Note;
 use shelf::Shelf;
 
 impl<M, S: Shelf> Core<M, S> {
-    // The word of one record taken back by the note of a slot.
+    // The word of one record taken back by the note of a slot. The shelf alone changes, and it is said of each table by name
+    // that it does not: a word for all three would hide them.
     fn take_back_at(&mut self, seat: Seat, place: u8)
         ensures words { S.Shelf.words self.new.shelf ≡ slice_set (S.Shelf.words self.old.shelf) place (back (cell Nothing self.old.noted.rows seat.slot place) (slice_index (S.Shelf.words self.old.shelf) place)) }
         ensures seats { self.new.seats ≡ self.old.seats }

@@ -23,7 +23,7 @@ impl Seats {
         }
     }
 
-    // The number that the next job gets.
+    // The number that the next job gets. That one is left is no invariant: the seats are in order where none is.
     fn next_number(&self) -> u32
         requires { self.now.opened < 1000000 }
         ensures value { result ≡ self.now.opened + 1 }
