@@ -69,8 +69,8 @@ fn all_of<T: Drop, F: Fn(&[u8]) -> Option<T>>(
     Ok(values)
 }
 
-// What an operation does, by its letter and the bytes after its `=`, if it has one. The other program reads the same letters: a function
-// for both would take a number, and each would still turn the bytes into one first.
+// What an operation does, by its letter and the bytes after its `=`, if it has one. The other program reads the same letters; no crate
+// beneath the two both reads texts and knows operations, and one of its own would hold these four arms alone.
 fn action(letter: u8, word: Option<&[u8]>) -> Option<Action>
     ensures value { result ≡ action_of letter (option_map (λ x. x.now) word.entry) }
 {

@@ -5,7 +5,7 @@ ghost use Rattle.modes.specs.Systems.{System, Lawful};
 use crate::kind::Kind;
 
 // Modes are codes from 0 to `COUNT` - 1; code 0 is "no lock". A code beyond the last is read as the last. They are no enum, since
-// each system has its own, and every byte is a question that is answered.
+// each system has its own and a byte beyond the last is admitted too.
 // Answers come from the system alone and change nothing.
 pub trait ModeSystem {
     // How many modes there are, at most 16.

@@ -28,8 +28,8 @@ fn total<S: Shelf>(tree: &Tree, shelf: &S, granule: usize) -> u64
         .sum()
 }
 
-// What a read answers: the sum of the words of the records beneath a granule, and how many records there are. A pair: the
-// outcome of a read, which it becomes at once, names the two.
+// What a read answers: the sum of the words of the records beneath a granule, and how many records there are. A pair, as
+// callers of the engine get it.
 pub fn figures<S: Shelf>(tree: &Tree, shelf: &S, granule: usize) -> (u64, u32)
     ensures sum { result.0 ≡ sum (table tree.now) (S.Shelf.words shelf.now) granule }
     ensures count { result.1 ≡ records_beneath (table tree.now) granule }
@@ -37,6 +37,7 @@ pub fn figures<S: Shelf>(tree: &Tree, shelf: &S, granule: usize) -> (u64, u32)
 {
     (
         total(tree, shelf, granule),
+        // There are at most 256, so it fits.
         tree.records_beneath(granule) as u32,
     )
 }

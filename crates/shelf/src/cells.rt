@@ -73,7 +73,8 @@ pub type WordShelf = CellShelf<u32>;
 // Four bytes a word.
 pub type PackedShelf = CellShelf<[u8; 4]>;
 
-// How many of the places wanted a shelf of its own has.
+// How many of the places wanted a shelf of its own has. This and the next two are functions of their own, so that an error in
+// one fails at its own promise.
 fn places(wanted: usize) -> usize
     ensures { result ≡ min wanted 256 }
 {

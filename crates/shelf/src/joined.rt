@@ -31,7 +31,8 @@ enum Side {
     Second(usize),
 }
 
-// The side of a place, where the first shelf has `size` places; a place beyond the most lies on neither.
+// The side of a place, where the first shelf has `size` places; a place beyond the most lies on neither. This and the next are
+// functions of their own, so that an error in one fails at its own promise.
 fn side_of(size: usize, place: usize) -> Option<Side>
     ensures { result ≡ side size place }
 {

@@ -5,7 +5,7 @@ ghost use Rattle.tables.specs.Grids.{all_long};
 pub mod cells;
 pub mod notes;
 
-// A row for each of the 16 slots, with a cell for each of 256 granules: an array, as all that is kept, since no call takes
+// A row for each of the 16 slots, with a cell for each of 256 granules: an array, like all that is kept, since no call takes
 // memory.
 #[derive(Drop)]
 pub struct Grid<T> {

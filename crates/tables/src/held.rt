@@ -9,7 +9,7 @@ pub mod cells;
 pub mod counts;
 
 // The mode that each slot holds on each granule; and for each granule, how many slots hold each mode, which agrees with
-// these at any time.
+// these at any time. Arrays, since no call takes memory.
 #[derive(Drop)]
 pub struct Held {
     modes: Grid<u8>,

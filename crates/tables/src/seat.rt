@@ -9,6 +9,7 @@ pub(crate) struct Seat {
 }
 
 impl Seat {
+    // The seat at a place.
     pub(crate) fn at(slot: usize) -> Seat
         requires { slot < 16 }
         ensures { result.slot ≡ slot }

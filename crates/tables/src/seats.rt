@@ -8,7 +8,8 @@ pub mod asks;
 pub mod moves;
 
 // The jobs in the 16 slots, none where a slot is free, and the last number that was given. No job has the number 0, none
-// that sits has ended, and what one waits for is an operation on one of the 256 granules.
+// that sits has ended, and what one waits for is an operation on one of the 256 granules. An array,
+// since no call takes memory.
 #[derive(Clone, Copy)]
 pub struct Seats {
     slots: [Option<Slot>; 16],

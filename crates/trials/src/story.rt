@@ -55,8 +55,8 @@ pub fn read_setting(heap: Global, line: &mut Line<'_>) -> Result<Setting> {
     })
 }
 
-// The operation of a job: the rest of an entry after its letter. The other program reads the same letters: a function for both would take
-// a number, and each would still turn the bytes into one first.
+// The operation of a job: the rest of an entry after its letter. The other program reads the same letters; no crate beneath the two both
+// reads texts and knows operations, and one of its own would hold these four arms alone.
 fn operation(letter: u8, rest: &[u8]) -> Option<(u32, Operation)> {
     let (place, word) = cut_at(rest, b'=');
     let (job, granule) = cut_at(place, b'.');

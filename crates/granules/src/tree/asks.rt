@@ -70,8 +70,8 @@ impl Tree {
         }
     }
 
-    // Where records beneath a granule can lie: from the first number up to the second, which is not among them. A pair: a
-    // `Range` would hold the same two numbers, and be used up by who asks twice.
+    // Where records beneath a granule can lie: from the first number up to the second, which is not among them. A pair, as
+    // callers know it.
     #[tactic(auto, using(crate::proofs::Kept::spans))]
     pub fn span(&self, granule: usize) -> (usize, usize)
         ensures value { result ≡ span (table self.now) granule }

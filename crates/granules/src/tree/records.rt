@@ -16,7 +16,7 @@ pub struct Records<'a> {
     rest: Range<usize>,
 }
 
-// The records beneath a granule among the numbers from `first` up to `end`, which is not among them.
+// The records beneath a granule that are numbered from `first` to before `end`.
 fn among(tree: &Tree, above: usize, first: usize, end: usize) -> Records<'_>
     ensures { ahead result ≡ filter (record_beneath (table tree.now) above) (range_with_len first (end - first)) }
 {

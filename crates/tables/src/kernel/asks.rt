@@ -18,7 +18,7 @@ impl<M, S: Shelf> Core<M, S> {
 }
 
 impl<M: ModeSystem, S: Shelf> Core<M, S> {
-    // The group mode of a granule, and how many hold one.
+    // The group mode of a granule, and how many hold one. A pair, as callers of the engine get it.
     pub(super) fn head(&self, granule: u8) -> (u8, u32)
         ensures group { result.0 ≡ group M.ModeSystem.meaning (jobs_of self.now.seats self.now.held) granule (suc self.now.seats.opened) }
         ensures holders { result.1 ≡ holders (jobs_of self.now.seats self.now.held) granule }

@@ -16,8 +16,8 @@ use modes::system::ModeSystem;
 use shelf::Shelf;
 
 impl<M: ModeSystem, S: Shelf> Core<M, S> {
-    // A job is met by a claim, and is wounded if it must give way. That it sits, and that who sits where stays as it was, is
-    // said of the seats at a call, here and below: neither is an invariant of a job or of the seats.
+    // A job is met by a claim, and is wounded if it must give way. That it sits, and that nobody changes seats, is said at each
+    // call, here and below: neither is an invariant of a job or of the seats.
     fn meet(&mut self, claim: Claim, job: u32)
         requires { slot (numbers_of self.old.seats) job < 16 }
         ensures model { model S.Shelf.words self.new ≡ wounded_if (yields M.ModeSystem.meaning (jobs_of self.old.seats self.old.held) claim.asker claim.granule claim.target job) job (model S.Shelf.words self.old) }

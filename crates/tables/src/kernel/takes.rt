@@ -26,7 +26,7 @@ impl<M, S: Shelf> Core<M, S> {
         ensures noted { self.new.noted ≡ self.old.noted }
     {
         let note = self.noted.get(seat, place);
-        // No `==`: that two notes are equal does not show that they are one.
+        // No `==`: its yes is no proof that the two notes are the same.
         if let Note::Nothing = note {
             return;
         }

@@ -61,7 +61,7 @@ impl<M: ModeSystem, S: Shelf> Core<M, S> {
         self.work(tree, operation)
     }
 
-    // A job's operation: carried out if it gets the locks, else it waits.
+    // A job's operation: carried out if it gets the locks, else it waits. A `then` would hand what `carry` asks to a closure.
     pub(super) fn try_out(&mut self, tree: &Tree, job: u32, operation: Operation) -> Option<Outcome>
         requires seated { slot (numbers_of self.old.seats) job < 16 }
         requires opened { is_open (status_of (numbers_of self.old.seats) (states_of self.old.seats) job) ≡ true }

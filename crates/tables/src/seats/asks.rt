@@ -39,7 +39,7 @@ impl Seats {
         self.slots.iter().position(|slot| has(number, slot))
     }
 
-    // That slot as a seat.
+    // That slot as a seat. A `map` would hand what `Seat::at` asks to a closure.
     fn find(&self, number: Option<u32>) -> Option<Seat>
         ensures value { option_map (λ s. s.slot) result ≡ position (has number) self.now.slots }
     {
