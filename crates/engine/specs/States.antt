@@ -31,6 +31,7 @@ abbrev pub state_by : {M S : Type 0} → (S → List ℕ) → Option Tree → Co
 state_by words None c = bare (words_on words c)
 state_by words (Some t) c = laid (table t) (model words c)
 
+-- What an engine is, read off its fields.
 abbrev pub state : {M S : Type 0} → (S → List ℕ) → Engine M S → State
 state words e = state_by words e.tree e.core
 

@@ -5,6 +5,7 @@ use Rattle.std.specs.Prelude.{◌≡◌, ℕ, ◌+◌, ◌-◌, ◌*◌, ◌<◌
 abbrev pub digit : ℕ → Bool
 digit b = nat_le 48 b && nat_le b 57
 
+-- Bytes that are all digits.
 abbrev pub digits : List ℕ → Bool
 digits [] = true
 digits (b ∷ bs) = digit b && digits bs

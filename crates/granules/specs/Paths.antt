@@ -4,6 +4,7 @@ use Rattle.std.specs.Prelude.{ℕ, zero, suc, Bool, false, not, ◌&&◌, ◌||�
 use Rattle.std.specs.List.{filter, range_with_len}
 use Rattle.granules.specs.Below.{some_below, count_below}
 
+-- The parent of granule g.
 abbrev pub parent : List ℕ → ℕ → ℕ
 parent parents g = slice_index parents g
 
@@ -14,6 +15,7 @@ path_by zero parents g = g ∷ []
 path_by (suc n) parents zero = 0 ∷ []
 path_by (suc n) parents (suc g) = path_by n parents (parent parents (suc g)) ++ suc g ∷ []
 
+-- The granules from the root down to g.
 unfoldable pub path : List ℕ → ℕ → List ℕ
 path parents g = path_by g parents g
 

@@ -3,18 +3,21 @@ use Rattle.std.specs.Prelude.{ℕ, suc, Bool, true, false, ◌==◌}
 pub use Rattle.ledger.specs.declared.job.Status.{Status}
 pub use Rattle.ledger.specs.declared.job.Status.TheVariants.{Working as working, Waiting as waiting, Wounded as wounded, Ended as ended}
 
+-- Whether a job waits for a lock.
 abbrev pub is_waiting : Status → Bool
 is_waiting working = false
 is_waiting (waiting o) = true
 is_waiting wounded = false
 is_waiting ended = false
 
+-- Whether a job was wounded and has not been reopened.
 abbrev pub is_wounded : Status → Bool
 is_wounded working = false
 is_wounded (waiting o) = false
 is_wounded wounded = true
 is_wounded ended = false
 
+-- Whether a job has ended, or was never opened.
 abbrev pub is_ended : Status → Bool
 is_ended working = false
 is_ended (waiting o) = false

@@ -64,6 +64,7 @@ pub record Ledger : Type 0 where
   pub steps : ℕ → List Step
   pub order : List ℕ
 
+-- The ledger before any call.
 abbrev pub blank : Ledger
 blank = record { jobs = none; steps = λ _. []; order = [] }
 
@@ -115,6 +116,7 @@ together [] xs = []
 together (c ∷ cs) [] = []
 together (c ∷ cs) (x ∷ xs) = (c, x) ∷ together cs xs
 
+-- What a call leaves: what there was if it is refused, else what is new.
 abbrev pub unless_refused : Option Refusal → Ledger → Ledger → Ledger
 unless_refused (Some r) before after = before
 unless_refused None before after = after

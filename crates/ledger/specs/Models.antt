@@ -35,6 +35,7 @@ noted_add nothing n = added (n % 4294967296)
 noted_add (added m) n = added ((m + n) % 4294967296)
 noted_add (put_back w) n = put_back w
 
+-- The note after any action: a read changes none; a set notes the word that its job found; an addition adds up.
 abbrev pub noted : Action → ℕ → Note → Note
 noted Read word note = note
 noted Mean word note = note
@@ -58,6 +59,7 @@ pub record Model : Type 0 where
   pub words : List ℕ
   pub notes : ℕ → ℕ → Note
 
+-- The model over first words, before any call.
 abbrev pub fresh : List ℕ → Model
 fresh words = record { jobs = none; words = words; notes = λ _ _. nothing }
 
@@ -97,6 +99,7 @@ pub record Served : Type 0 where
   pub left : Model
   pub said : Answer
 
+-- An operation that a job asks for: carried out if it gets all of its locks, else it waits.
 abbrev pub try : Layout → ℕ → Operation → Model → Served
 try y j o m =
     let w = attempt model_hands y j o m in
@@ -105,6 +108,7 @@ try y j o m =
       | false ↦ record { left = w.left; said = Waits }
     ]
 
+-- A call that is not refused: what it leaves, and what it answers.
 abbrev pub grant : Layout → Call → Model → Served
 grant y (Lay parents words) m = record { left = m; said = Told Done }
 grant y Open m =
@@ -132,6 +136,7 @@ grant y (GiveUp j) m =
     }
 grant y (Look g) m = record { left = m; said = Head (group y.system m.jobs g (suc m.jobs.opened)) (holders m.jobs g) }
 
+-- A refusal leaves the model as it is; without one the call is served.
 abbrev pub refused_or : Option Refusal → Model → Served → Served
 refused_or (Some r) m s = record { left = m; said = Refused r }
 refused_or None m s = s
@@ -145,6 +150,7 @@ abbrev pub history : Layout → List Call → Model → List Event
 history y [] m = []
 history y (c ∷ cs) m = let s = serve y c m in (c, s.said) ∷ history y cs s.left
 
+-- The model after calls, one after the other.
 abbrev pub served : Layout → List Call → Model → Model
 served y [] m = m
 served y (c ∷ cs) m = served y cs (serve y c m).left

@@ -44,6 +44,7 @@ abbrev pub group : System → Jobs → ℕ → ℕ → ℕ
 group s js g zero = 0
 group s js g (suc n) = s.join (group s js g n) (js.mode n g)
 
+-- How many of the jobs ever opened hold anything on a granule.
 abbrev pub holders : Jobs → ℕ → ℕ
 holders js g = count_below (suc js.opened) (λ k. not (js.mode k g == 0))
 
@@ -58,18 +59,22 @@ Granted y l (Commit j) a = a ≡ Told Done
 Granted y l (GiveUp j) a = a ≡ Told Done
 Granted y l (Look g) a = a ≡ Head (group y.system l.jobs g (suc l.jobs.opened)) (holders l.jobs g)
 
+-- A refused call answers its refusal; of any other, a statement holds.
 abbrev pub ByRefusal : Option Refusal → Answer → Type 0 → Type 0
 ByRefusal (Some r) a P = a ≡ Refused r
 ByRefusal None a P = P
 
+-- What an event answers is what its call has to answer.
 abbrev pub RightAnswer : Layout → Ledger → Event → Type 0
 RightAnswer y l e = ByRefusal (refusal (facts y l.jobs) e.0) e.1 (Granted y l e.0 e.1)
 
 -- 2. The oldest job: the oldest that has not ended is not wounded by any call, and no call of its own waits.
 
+-- Job k is the oldest that has not ended.
 abbrev pub Oldest : Jobs → ℕ → Type 0
 Oldest js k = (is_ended (js.status k) ≡ false) × ((j : ℕ) → j < k → is_ended (js.status j) ≡ true)
 
+-- An event neither wounds the oldest job nor answers that it waits.
 abbrev pub OldestGoesOn : Layout → Ledger → Event → Type 0
 OldestGoesOn y l e =
     (k : ℕ)
@@ -80,6 +85,7 @@ OldestGoesOn y l e =
 -- 3. Serial order: the words now, and every answer noted, are those of the jobs run alone: the committed ones in the order
 -- of their commits, then the open ones in whatever order.
 
+-- How often a number stands in a list.
 abbrev pub count_of : ℕ → List ℕ → ℕ
 count_of k [] = 0
 count_of k (x ∷ xs) = elim (x == k) [ true ↦ suc (count_of k xs) | false ↦ count_of k xs ]
@@ -93,6 +99,7 @@ abbrev pub in_turn : (ℕ → List Step) → List ℕ → List Step
 in_turn f [] = []
 in_turn f (k ∷ ks) = f k ++ in_turn f ks
 
+-- In whatever order the open jobs come after the committed ones, run alone in turn they give the answers and these words.
 abbrev pub Serial : Layout → List ℕ → Ledger → List ℕ → Type 0
 Serial y first l words =
     (ks : List ℕ) → Arranges l.jobs ks → Alone y.parents first (in_turn l.steps l.order ++ in_turn l.steps ks) words

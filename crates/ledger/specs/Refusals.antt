@@ -110,6 +110,7 @@ pub record Facts : Type 0 where
   -- places of the shelf
   pub places : ℕ
 
+-- Whether a table's fault is the one that a row is about.
 abbrev same_fault : Option Unfit → Unfit → Bool
 same_fault None u = false
 same_fault (Some v) u = tables.number v == tables.number u
@@ -134,5 +135,6 @@ abbrev pub first_of : (Refusal → Bool) → List Refusal → Option Refusal
 first_of p [] = None
 first_of p (r ∷ rs) = elim (p r) [ true ↦ Some r | false ↦ first_of p rs ]
 
+-- What the table answers to a call: the uppermost row that it can meet and that fits, if one does.
 abbrev pub refusal : Facts → Call → Option Refusal
 refusal f c = first_of (λ r. among (number r) (can_meet c) && fits f c r) rows

@@ -24,9 +24,11 @@ use Rattle.ledger.specs.Models.{fresh, history, served}
 abbrev pub counting_over : List ℕ → Layout
 counting_over parents = record { system = rights.system rights.counting; parents = parents }
 
+-- an action on a granule
 abbrev on : ℕ → Action → Operation
 on g a = record { granule = g; action = a }
 
+-- the answers of a history
 abbrev answers : List Event → List Answer
 answers es = map (λ e. e.1) es
 
@@ -34,6 +36,7 @@ answers es = map (λ e. e.1) es
 abbrev pub six : Layout
 six = counting_over (0 ∷ 0 ∷ 0 ∷ 1 ∷ 1 ∷ 2 ∷ [])
 
+-- Their first words: records have 10, 20 and 30.
 abbrev pub first_words : List ℕ
 first_words = 0 ∷ 0 ∷ 0 ∷ 10 ∷ 20 ∷ 30 ∷ []
 
@@ -58,6 +61,7 @@ story_calls =
     ∷ GiveUp 3
     ∷ []
 
+-- What these calls answer.
 abbrev pub story_answers : List Answer
 story_answers =
     Job 1
@@ -93,6 +97,7 @@ Restores =
 abbrev sixteen : List Call
 sixteen = Open ∷ Open ∷ Open ∷ Open ∷ Open ∷ Open ∷ Open ∷ Open ∷ Open ∷ Open ∷ Open ∷ Open ∷ Open ∷ Open ∷ Open ∷ Open ∷ []
 
+-- Sixteen openings pass, the seventeenth does not, and does once job 1 has committed.
 abbrev pub Seventeenth : Type 0
 Seventeenth =
     answers (history (counting_over (0 ∷ [])) (sixteen ++ Open ∷ Commit 1 ∷ Open ∷ []) (fresh (0 ∷ [])))
@@ -121,6 +126,7 @@ Seventeenth =
 abbrev looks : Bool → ℕ → ℕ → Status → Facts
 looks laid unended opened st = record { laid = laid; unended = unended; opened = opened; status = λ _. st; granules = 6; places = 6 }
 
+-- The answers where two rows or more fit.
 pub record Uppermost : Type 0 where
   -- not laid out, and no such job either
   pub unlaid : refusal (looks false 0 0 ended) (Commit 1) ≡ Some NotLaidOut

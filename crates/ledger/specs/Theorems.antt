@@ -36,6 +36,7 @@ abbrev pub EachGoesOn : Layout → Ledger → List Event → Type 0
 EachGoesOn y l [] = Unit {0}
 EachGoesOn y l (e ∷ es) = OldestGoesOn y l e × EachGoesOn y (next y l e) es
 
+-- So it is at each event of every run.
 abbrev pub OldestNeverWaits : Type 0
 OldestNeverWaits = OfEveryRun (λ y start calls. EachGoesOn y blank (history y calls (fresh start)))
 

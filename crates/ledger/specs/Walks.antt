@@ -16,20 +16,23 @@ judge s asker target holder held =
       | false ↦ elim (s.stands held target) [ true ↦ passes | false ↦ elim (nat_lt asker holder) [ true ↦ gives_way | false ↦ holds_up ] ]
     ]
 
+-- Whether a judgement wounds the holder.
 abbrev pub must_give_way : Judgement → Bool
 must_give_way passes = false
 must_give_way gives_way = true
 must_give_way holds_up = false
 
+-- Whether a judgement lets the asker wait.
 abbrev pub must_wait : Judgement → Bool
 must_wait passes = false
 must_wait gives_way = false
 must_wait holds_up = true
 
--- Whether job k gives way to one that asks for a target on granule x, and whether it holds it up.
+-- Whether job k gives way to one that asks for a target on granule x.
 abbrev pub yields : System → Jobs → ℕ → ℕ → ℕ → ℕ → Bool
 yields s js asker x target k = must_give_way (judge s asker target k (js.mode k x))
 
+-- Whether job k holds the asker up.
 abbrev pub blocks : System → Jobs → ℕ → ℕ → ℕ → ℕ → Bool
 blocks s js asker x target k = must_wait (judge s asker target k (js.mode k x))
 

@@ -2,10 +2,11 @@
 use Rattle.std.specs.Prelude.{◌≡◌, ℕ, Bool, true, false}
 use Rattle.modes.specs.Rights.{Mode, system, mode, code, gray, counting, IS, IN, S, N, SIX, X}
 
--- two modes of the counting system, by their names, joined and held at once
+-- two modes of the counting system, by their names, joined
 abbrev joins : Mode → Mode → ℕ
 joins p q = (system counting).join (code counting p) (code counting q)
 
+-- whether two such modes stand together
 abbrev stand : Mode → Mode → Bool
 stand p q = (system counting).stands (code counting p) (code counting q)
 

@@ -10,6 +10,7 @@ use Rattle.modes.specs.Systems.{System, Lawful, clipped}
 use Rattle.modes.specs.Rights.{Design, system, Mode, NL, code, joined, stand}
 use Rattle.modes.specs.Below.{below, at}
 
+-- whether two tests say the same
 abbrev pub alike : Bool → Bool → Bool
 alike true b = b
 alike false b = not b
@@ -20,27 +21,33 @@ alike_same true false e = sym e
 alike_same false true e = e
 alike_same false false e = refl
 
--- what is tested of one code, of two, of three, of a kind and of two kinds
+-- what is tested of one code: joined with itself or with no lock it stays, and no lock stands with it
 abbrev one : System → ℕ → Bool
 one s a = s.join a a == a && (s.join 0 a == a && s.stands 0 a)
 
+-- of two: a join is a mode, in whatever order; so is standing together
 abbrev two : System → ℕ → ℕ → Bool
 two s a b = nat_lt (s.join a b) s.count && (s.join a b == s.join b a && alike (s.stands a b) (s.stands b a))
 
+-- of three: joins associate, and to stand with a join is to stand with both
 abbrev three : System → ℕ → ℕ → ℕ → Bool
 three s a b c =
     (s.join (s.join a b) c == s.join a (s.join b c))
     && alike (s.stands a (s.join b c)) (s.stands a b && s.stands a c)
 
+-- of a kind: its modes are modes of the system
 abbrev kind : System → Kind → Bool
 kind s k = nat_lt (s.full k) s.count && nat_lt (s.intent k) s.count
 
+-- of two kinds: they commute, or their modes do not stand together
 abbrev kinds : System → Kind → Kind → Bool
 kinds s k l = commutes k l || (not (s.stands (s.full k) (s.full l)) && not (s.stands (s.full k) (s.intent l)))
 
+-- a test of every kind
 abbrev each_kind : (Kind → Bool) → Bool
 each_kind f = f Read && (f Set && f Add)
 
+-- all of these tests, of all codes and kinds
 abbrev pub sound : System → Bool
 sound s =
     (nat_lt 0 s.count && nat_le s.count 16)

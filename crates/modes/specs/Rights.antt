@@ -38,6 +38,7 @@ conflicts everything reads = true
 conflicts everything adds = true
 conflicts everything everything = true
 
+-- Whether two rights are one.
 abbrev pub same_right : Right → Right → Bool
 same_right nothing nothing = true
 same_right nothing reads = false
@@ -98,6 +99,7 @@ joined p q = record { has = both p.has q.has; may = both p.may q.may }
 abbrev pub stand : Mode → Mode → Bool
 stand p q = not (conflicts p.has q.may) && not (conflicts q.has p.may)
 
+-- Whether two modes are one.
 abbrev pub same_mode : Mode → Mode → Bool
 same_mode p q = same_right p.has q.has && same_right p.may q.may
 
@@ -115,6 +117,7 @@ abbrev pub place : List Mode → Mode → ℕ
 place [] p = 0
 place (q ∷ qs) p = elim (same_mode q p) [ true ↦ 0 | false ↦ suc (place qs p) ]
 
+-- The code of a mode in a system.
 abbrev pub code : Design → Mode → ℕ
 code d p = place d.modes p
 
@@ -136,6 +139,7 @@ gray_right Read = reads
 gray_right Set = everything
 gray_right Add = everything
 
+-- The six modes in the order of their codes.
 abbrev pub gray : Design
 gray = record { modes = NL ∷ IS ∷ IX ∷ S ∷ SIX ∷ X ∷ []; right = gray_right }
 
@@ -145,5 +149,6 @@ counting_right Read = reads
 counting_right Set = everything
 counting_right Add = adds
 
+-- The nine modes in the order of their codes.
 abbrev pub counting : Design
 counting = record { modes = NL ∷ IS ∷ IN ∷ IX ∷ S ∷ N ∷ SIX ∷ NIX ∷ X ∷ []; right = counting_right }

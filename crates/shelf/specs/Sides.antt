@@ -14,12 +14,13 @@ got first second (Some (First k)) = at first k
 got first second (Some (Second k)) = at second k
 got first second None = None
 
--- What a put at a side says, and the words of both shelves after it.
+-- What a put at a side says.
 abbrev pub inside : List ℕ → List ℕ → Option Side → Bool
 inside first second (Some (First k)) = nat_lt k (length first)
 inside first second (Some (Second k)) = nat_lt k (length second)
 inside first second None = false
 
+-- The words of both shelves after a put at a side.
 abbrev pub after : List ℕ → List ℕ → ℕ → Option Side → List ℕ
 after first second w (Some (First k)) = joined (slice_set first k w) second
 after first second w (Some (Second k)) = joined first (slice_set second k w)

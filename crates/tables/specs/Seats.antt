@@ -10,19 +10,21 @@ use Rattle.tables.specs.declared.slot.Event.{Event}
 use Rattle.tables.specs.declared.slot.Slot.{Slot}
 use Rattle.tables.specs.Slots.{moved}
 
--- The number of the job in a slot, 0 if there is none; and its state, ended if there is none.
+-- The number of the job in a slot, 0 if there is none.
 abbrev pub number_in : Option Slot → ℕ
 number_in None = 0
 number_in (Some s) = s.number
 
+-- The state of the job in a slot, ended if there is none.
 abbrev pub state_in : Option Slot → Status
 state_in None = Ended
 state_in (Some s) = s.state
 
--- The same of all slots, in their order.
+-- The numbers in all slots, in their order.
 abbrev pub numbers_in : List (Option Slot) → List ℕ
 numbers_in slots = map number_in slots
 
+-- The states in all slots, in their order.
 abbrev pub states_in : List (Option Slot) → List Status
 states_in slots = map state_in slots
 

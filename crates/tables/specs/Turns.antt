@@ -8,6 +8,7 @@ use Rattle.ledger.specs.declared.call.Answer.{Answer}
 use Rattle.ledger.specs.declared.call.Answer.TheVariants.{Told, Waits}
 use Rattle.ledger.specs.Ledgers.{Layout}
 
+-- A mode system over the table of a tree.
 abbrev pub layout : System → Tree → Layout
 layout s t = record { system = s; parents = table t }
 

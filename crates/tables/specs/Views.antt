@@ -12,10 +12,11 @@ use Rattle.tables.specs.declared.seats.Seats.{Seats}
 use Rattle.tables.specs.Grids.{cell}
 use Rattle.tables.specs.Seats.{numbers_in, slot, states_in, status_of}
 
--- The numbers of the jobs in the slots, 0 where one is free, and their states, ended where one is free.
+-- The numbers of the jobs in the slots, 0 where one is free.
 abbrev pub numbers_of : Seats → List ℕ
 numbers_of seats = numbers_in seats.slots
 
+-- The states of the jobs in the slots, ended where one is free.
 abbrev pub states_of : Seats → List Status
 states_of seats = states_in seats.slots
 

@@ -23,7 +23,7 @@ pub struct Setting {
 
 impl Setting {
     // The call that lays an engine out so.
-    pub fn lay(&self) -> Call<'_> {
+    pub(crate) fn lay(&self) -> Call<'_> {
         Call::Lay(self.parents.as_slice(), self.words.as_slice())
     }
 }
