@@ -108,20 +108,17 @@ fn operation(entry: &[u8], granules: u32) -> Option<Operation>
     lettered(*letter, rest, granules)
 }
 
-// The four lines. Anything after them is a bad entry 1 of line 5.
-fn read_lines(
-    heap: Global,
-    first: Line<'_>,
-    second: Line<'_>,
-    third: Line<'_>,
-    fourth: Line<'_>,
-    lines: &Lines<'_>,
-) -> Result<Work, Denied>
-    ensures value { ReadAs input_of (read_lines (remains first.entry) (remains second.entry) (remains third.entry) (remains fourth.entry) lines.now.rest.now) result }
+// The four lines with which a text goes on, each cut off when it is read. Anything after them is a bad entry 1 of line 5.
+fn read_lines(heap: Global, lines: &mut Lines<'_>) -> Result<Work, Denied>
+    ensures value { ReadAs input_of (reading lines.old.rest.now) result }
 {
+    let first = lines.next_line();
     let (granules, count) = sizes(first)?;
+    let second = lines.next_line();
     let parents = all_of(heap, second, 2, granules, number)?;
+    let third = lines.next_line();
     let words = all_of(heap, third, 3, granules, number)?;
+    let fourth = lines.next_line();
     let operations = all_of(heap, fourth, 4, count, |entry| operation(entry, granules))?;
     if !lines.is_spent() {
         return Err(Denied::Entry(5, 1));
@@ -138,9 +135,5 @@ pub fn read(heap: Global, text: &[u8]) -> Result<Work, Denied>
     ensures value { ReadAs input_of (reading text.now) result }
 {
     let mut lines = Lines::new(text);
-    let first = lines.next_line();
-    let second = lines.next_line();
-    let third = lines.next_line();
-    let fourth = lines.next_line();
-    read_lines(heap, first, second, third, fourth, &lines)
+    read_lines(heap, &mut lines)
 }

@@ -77,7 +77,7 @@ serves s law c (laid ps m) after a e =
 
 -- An engine that is laid out does what its tables do.
 pub laid_serves :
-    {M S : Type 0} (s : System) → Lawful s → (c : Call) (words : S → List ℕ) (tree : Option Tree) (t : Tree) (core core' : Core M S) (a : Answer) → tree ≡ Some t
+    {S : Type 0} (s : System) → Lawful s → (c : Call) (words : S → List ℕ) (tree : Option Tree) (t : Tree) (core core' : Core S) (a : Answer) → tree ≡ Some t
     → serve (layout s t) c (model words core) ≡ record { left = model words core'; said = a }
     → Served s c (state_by words tree core) (state_by words tree core') a
 laid_serves s law c words tree t core core' a e f =
@@ -87,7 +87,7 @@ laid_serves s law c words tree t core core' a e f =
 
 -- An engine that is laid out is not laid out again.
 pub once :
-    {M S : Type 0} (s : System) → Lawful s → (ps ws : Bor (List ℕ)) (words : S → List ℕ) (tree : Option Tree) (core : Core M S) → is_some tree ≡ true
+    {S : Type 0} (s : System) → Lawful s → (ps ws : Bor (List ℕ)) (words : S → List ℕ) (tree : Option Tree) (core : Core S) → is_some tree ≡ true
     → Served s (Lay ps ws) (state_by words tree core) (state_by words tree core) (Refused AlreadyLaidOut)
 once s law ps ws words None core e = absurd (both_ways false refl e)
 once s law ps ws words (Some t) core e =

@@ -27,7 +27,7 @@ pub data State : Type 0 where
   laid : List ℕ → Model → State
 
 -- What an engine is, by its tree, which it has once it is laid out, and its tables.
-abbrev pub state_by : {M S : Type 0} → (S → List ℕ) → Option Tree → Core M S → State
+abbrev pub state_by : {S : Type 0} → (S → List ℕ) → Option Tree → Core S → State
 state_by words None c = bare (words_on words c)
 state_by words (Some t) c = laid (table t) (model words c)
 

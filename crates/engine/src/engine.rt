@@ -11,11 +11,12 @@ pub mod lays;
 pub mod operates;
 pub mod serves;
 
-// The tree of granules, once it is laid out, and the tables, with the mode system and the shelf.
+// A mode system, a shelf with its tables, and the tree of granules once it is laid out.
 #[derive(Drop)]
 pub struct Engine<M, S> {
+    system: M,
     tree: Option<Tree>,
-    core: Core<M, S>,
+    core: Core<S>,
 }
 
 // The tree of an engine that is laid out.

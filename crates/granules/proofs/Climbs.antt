@@ -138,6 +138,12 @@ beneath_up ps f above g n h =
     or_false true = refl
     or_false false = refl
 
+-- all lie beneath the root
+pub beneath_top : (ps : List ℕ) → Falls ps → (g : ℕ) → beneath ps 0 g ≡ true
+beneath_top ps f =
+    climb ps f (λ g. beneath ps 0 g ≡ true) (beneath_root ps 0)
+    (λ g h ih. beneath_step ps f 0 g h ∙ or_left (beneath ps 0 (parent ps g)) (eqb 0 g) ih)
+
 -- beneath a granule lie no smaller ones
 pub beneath_le : (ps : List ℕ) → Falls ps → (g r : ℕ) → beneath ps g r ≡ true → g ≤ r
 beneath_le ps f g =

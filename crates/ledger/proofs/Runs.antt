@@ -58,7 +58,7 @@ module _ (ps : List ℕ) where
       let b = swap ps s y (ys ++ rest) ws out h.0 a in
       (b.0, past s ys rest h.1 (after ps y.0 ws) out b.1)
 
-  exchange : (xs ys : List Step) → ListsApart ps xs ys → Alike (xs ++ ys) (ys ++ xs)
+  pub exchange : (xs ys : List Step) → ListsApart ps xs ys → Alike (xs ++ ys) (ys ++ xs)
   exchange [] ys h ws out a = rw append-nil a
   exchange (x ∷ xs) ys h ws out a = past x ys xs h.0 ws out (a.0, exchange xs ys h.1 (after ps x.0 ws) out a.1)
 

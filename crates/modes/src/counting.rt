@@ -68,13 +68,13 @@ pub struct Counting;
 impl ModeSystem for Counting {
     const COUNT: u8 = 9;
 
-    ghost COUNT = { 9 };
-
     ghost meaning = { system counting };
 
-    ghost counted = { refl };
-
     ghost lawful = { Laws.lawful counting refl };
+
+    fn modes(&self) -> u8 {
+        Self::COUNT
+    }
 
     // Both systems look their tables up alike, here and in `stands`: one function over a table of any size wants a proof file for
     // each table, and an error in an entry would then show there and not at the entry.

@@ -56,13 +56,13 @@ pub struct Gray;
 impl ModeSystem for Gray {
     const COUNT: u8 = 6;
 
-    ghost COUNT = { 6 };
-
     ghost meaning = { system gray };
 
-    ghost counted = { refl };
-
     ghost lawful = { Laws.lawful gray refl };
+
+    fn modes(&self) -> u8 {
+        Self::COUNT
+    }
 
     // Both systems look their tables up alike, here and in `stands`: one function over a table of any size wants a proof file for
     // each table, and an error in an entry would then show there and not at the entry.

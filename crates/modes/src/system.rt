@@ -1,5 +1,5 @@
 // The interface of a mode system.
-ghost use Rattle.std.specs.Prelude.{◌≡◌, ℕ};
+ghost use Rattle.std.specs.Prelude.{◌≡◌};
 ghost use Rattle.modes.specs.Systems.{System, Lawful};
 
 use crate::kind::Kind;
@@ -11,10 +11,13 @@ pub trait ModeSystem {
     // How many modes there are, at most 16.
     const COUNT: u8;
 
-    ghost COUNT: { ℕ };
-
     // What the system answers, as one record of functions.
     ghost meaning: { System };
+
+    // `COUNT`, for code that is generic over the system. Each system says it: written here once, it would want a law of
+    // whoever writes a system.
+    fn modes(&self) -> u8
+        ensures value { result ≡ meaning.count };
 
     // The mode of a job that holds both.
     fn join(&self, a: u8, b: u8) -> u8
@@ -32,16 +35,6 @@ pub trait ModeSystem {
     fn intent(&self, kind: Kind) -> u8
         ensures value { result ≡ meaning.intent kind };
 
-    // The constant says how many modes are meant.
-    ghost counted: { COUNT ≡ meaning.count };
-
     // The laws that the engine rests on.
     ghost lawful: { Lawful meaning };
-
-    // `COUNT`, of a system at hand.
-    final fn modes(&self) -> u8
-        ensures value { result ≡ meaning.count }
-    {
-        Self::COUNT
-    }
 }

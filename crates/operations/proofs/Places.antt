@@ -60,7 +60,7 @@ pub left_new : (ps : List ℕ) (o : Operation) (k w : ℕ) → record_beneath ps
 left_new ps o k w e = cond-true (record_beneath ps o.granule k) (changed o.action w) w e
 
 -- an action that leaves each word leaves the shelf
-after_still : (ps : List ℕ) (o : Operation) (ws : List ℕ) → ((w : ℕ) → changed o.action w ≡ w) → after ps o ws ≡ ws
+pub after_still : (ps : List ℕ) (o : Operation) (ws : List ℕ) → ((w : ℕ) → changed o.action w ≡ w) → after ps o ws ≡ ws
 unfolding after
 after_still ps o ws h =
     each_still 0 (left_at ps o) ws

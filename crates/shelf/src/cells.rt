@@ -37,6 +37,7 @@ impl Cell for u32 {
     }
 
     fn unpack(self) -> u32 {
+        // It is its own word.
         self
     }
 }

@@ -108,7 +108,7 @@ module _ (numbers : List ℕ) (i n : ℕ) (l : i < length numbers) (vacant : get
       grind (arith, nat_tests, new_slot, blank x, get_or_past rows (slot numbers n) [], slot_gone numbers n new, old_slot j)
 
 pub open_view :
-    {M S : Type 0} (words : S → List ℕ) (c : Core M S) (seats' : Seats) (i : ℕ) → i < 16 → get_or (numbers_of c.seats) i 0 ≡ 0
+    {S : Type 0} (words : S → List ℕ) (c : Core S) (seats' : Seats) (i : ℕ) → i < 16 → get_or (numbers_of c.seats) i 0 ≡ 0
     → (numbers_of seats') ≡ set (numbers_of c.seats) i (c.seats.opened + 1) → (states_of seats') ≡ set (states_of c.seats) i Working
     → seats'.opened ≡ c.seats.opened + 1
     → whole (words c.shelf) seats' c.held c.noted ≡ with_one_more (whole (words c.shelf) c.seats c.held c.noted)

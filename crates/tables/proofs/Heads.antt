@@ -69,7 +69,7 @@ tally_all (row ∷ rows) n x h =
       sum_front (length rows) (λ i. not (eqb (cell 0 (row ∷ rows) i x) 0)) (λ _. 1),
     )
 
-module _ {M S : Type 0} (c : Core M S) (x : ℕ) (inside : x < 256) where
+module _ {S : Type 0} (c : Core S) (x : ℕ) (inside : x < 256) where
   abbrev rows : List (List ℕ)
   rows = c.held.modes.rows
 

@@ -44,7 +44,7 @@ any_from a (suc n) f =
     ∙ any_from (suc a) n f
     ∙ ap (λ (m : ℕ). some_below m f) e
 
-module _ (s : System) (law : Lawful s) {M S : Type 0} (words : S → List ℕ) (c : Core M S) (a x t : ℕ) where
+module _ (s : System) (law : Lawful s) {S : Type 0} (words : S → List ℕ) (c : Core S) (a x t : ℕ) where
   -- whether a job gives way
   abbrev pub in_way : ℕ → Bool
   in_way k = yields s (jobs_of c.seats c.held) a x t k
@@ -75,16 +75,16 @@ module _ (s : System) (law : Lawful s) {M S : Type 0} (words : S → List ℕ) (
       grind (arith, nat_tests, in_way_seated k, next.least k)
 
   -- How far the wounding has come, in c', when `job` is the next to be met.
-  pub record Reached (c' : Core M S) (job : ℕ) : Type 0 where
+  pub record Reached (c' : Core S) (job : ℕ) : Type 0 where
     pub numbers : (numbers_of c'.seats) ≡ (numbers_of c.seats)
     pub so_far : model words c' ≡ wounded_upto in_way (far c.seats.opened job) (model words c)
     pub seated : (job ≡ 0 → ⊥) → among job (numbers_of c.seats) ≡ true
 
-  pub has_slot : (c' : Core M S) (job : ℕ) → (job ≡ 0 → ⊥) → Reached c' job → slot (numbers_of c'.seats) job < 16
+  pub has_slot : (c' : Core S) (job : ℕ) → (job ≡ 0 → ⊥) → Reached c' job → slot (numbers_of c'.seats) job < 16
   has_slot c' job d r = rw r.numbers (omega (arith, among_slot (numbers_of c.seats) job d (r.seated d), numbers_full c.seats))
 
   -- each step is nearer to the end
-  pub nearer_end : (c' : Core M S) (job : ℕ) → (job ≡ 0 → ⊥) → Reached c' job
+  pub nearer_end : (c' : Core S) (job : ℕ) → (job ≡ 0 → ⊥) → Reached c' job
       → (suc job ≤ far c.seats.opened (next_above job (numbers_of c.seats))) × (far c.seats.opened job ≡ job) × (job ≤ c.seats.opened)
   nearer_end c' job d r =
       let here = seated_given c.seats job (r.seated d) in
@@ -100,7 +100,7 @@ module _ (s : System) (law : Lawful s) {M S : Type 0} (words : S → List ℕ) (
       }
 
   -- one job met
-  met : (c' : Core M S) (job : ℕ) → (job ≡ 0 → ⊥) → Reached c' job
+  met : (c' : Core S) (job : ℕ) → (job ≡ 0 → ⊥) → Reached c' job
       → wounded_if (yields s (jobs_of c'.seats c'.held) a x t job) job (model words c') ≡ wounded_upto in_way (suc job) (model words c)
   met c' job d r =
       let m = model words c in
@@ -114,7 +114,7 @@ module _ (s : System) (law : Lawful s) {M S : Type 0} (words : S → List ℕ) (
         | inr e ↦ rw e (skip in_way m job (suc job) (omega arith) (λ k l h. let here : k ≡ job = omega arith in ap in_way here ∙ e))
       ]
 
-  pub again : (c' c'' : Core M S) (job : ℕ) → (job ≡ 0 → ⊥) → Reached c' job → (numbers_of c''.seats) ≡ (numbers_of c'.seats)
+  pub again : (c' c'' : Core S) (job : ℕ) → (job ≡ 0 → ⊥) → Reached c' job → (numbers_of c''.seats) ≡ (numbers_of c'.seats)
       → model words c'' ≡ wounded_if (yields s (jobs_of c'.seats c'.held) a x t job) job (model words c')
       → Reached c'' (next_above job (numbers_of c.seats))
   again c' c'' job d r n w =
@@ -128,7 +128,7 @@ module _ (s : System) (law : Lawful s) {M S : Type 0} (words : S → List ℕ) (
         seated = (next_nearest job (numbers_of c.seats)).found;
       }
 
-  pub end : (c' : Core M S) (job : ℕ) → job ≡ 0 → Reached c' job → model words c' ≡ model_hands.wound in_way (model words c)
+  pub end : (c' : Core S) (job : ℕ) → job ≡ 0 → Reached c' job → model words c' ≡ model_hands.wound in_way (model words c)
   end c' job e r =
       let past : far c.seats.opened job ≡ suc c.seats.opened = grind (arith, nat_tests) in
       r.so_far
@@ -144,7 +144,7 @@ module _ (s : System) (law : Lawful s) {M S : Type 0} (words : S → List ℕ) (
   at_slot i = holds_up_at s c.seats c.held a x t i
 
   -- a slot that holds up has a job that does
-  held_up : (i : ℕ) → i < 16 → at_slot i ≡ true → some_below a older ≡ true
+  pub held_up : (i : ℕ) → i < 16 → at_slot i ≡ true → some_below a older ≡ true
   held_up i l e =
       let numbers = numbers_of c.seats in
       let k = get_or numbers i 0 in
@@ -152,7 +152,7 @@ module _ (s : System) (law : Lawful s) {M S : Type 0} (words : S → List ℕ) (
       some_from a older k (blocks_old s law (jobs_of c.seats c.held) a x t k up).0 up
 
   -- and the other way round
-  not_held_up : some_below 16 at_slot ≡ false → some_below a older ≡ false
+  pub not_held_up : some_below 16 at_slot ≡ false → some_below a older ≡ false
   not_held_up none = never (some_below a older) (λ e. let r = some_at a older e in cc (none, found r.0 r.2))
     where
       found : (k : ℕ) → older k ≡ true → some_below 16 at_slot ≡ true

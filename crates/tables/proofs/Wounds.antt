@@ -31,7 +31,7 @@ model_eq m n o s d w t =
 
 -- The job in a slot wounded is that job wounded in the model.
 pub wound_view :
-    {M S : Type 0} (words : S → List ℕ) (c c' : Core M S) (k : ℕ) → slot (numbers_of c.seats) k < 16
+    {S : Type 0} (words : S → List ℕ) (c c' : Core S) (k : ℕ) → slot (numbers_of c.seats) k < 16
     → words c'.shelf ≡ taken_back (cell Nothing c.noted.rows (slot (numbers_of c.seats) k)) (words c.shelf)
     → (numbers_of c'.seats) ≡ (numbers_of c.seats) → (states_of c'.seats) ≡ set (states_of c.seats) (slot (numbers_of c.seats) k) Wounded
     → c'.seats.opened ≡ c.seats.opened → c'.held.modes.rows ≡ set c.held.modes.rows (slot (numbers_of c.seats) k) (replicate 256 0)

@@ -38,9 +38,9 @@ abbrev pub whole : List ℕ → Seats → Held → Grid Note → Model
 whole words seats held noted = record { jobs = jobs_of seats held; words = words; notes = notes_of seats noted }
 
 -- The words of the shelf alone.
-abbrev pub words_on : {M S : Type 0} → (S → List ℕ) → Core M S → List ℕ
+abbrev pub words_on : {S : Type 0} → (S → List ℕ) → Core S → List ℕ
 words_on words c = words c.shelf
 
 -- The model of all that is kept.
-abbrev pub model : {M S : Type 0} → (S → List ℕ) → Core M S → Model
+abbrev pub model : {S : Type 0} → (S → List ℕ) → Core S → Model
 model words c = whole (words c.shelf) c.seats c.held c.noted

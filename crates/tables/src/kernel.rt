@@ -1,4 +1,4 @@
-// What a laid-out engine keeps: the mode system, the shelf, who sits where, the modes that are held and the notes.
+// What a laid-out engine keeps: the shelf, who sits where, the modes that are held and the notes.
 ghost use Rattle.std.specs.Prelude.{◌≡◌, ℕ, true, slice_index};
 ghost use Rattle.ledger.specs.declared.job.Note.TheVariants.{Nothing};
 ghost use Rattle.tables.specs.Grids.{cell, is_nothing};
@@ -20,8 +20,7 @@ pub mod walks;
 
 // A free slot holds nothing and has no notes, at any time.
 #[derive(Drop)]
-pub struct Core<M, S> {
-    system: M,
+pub struct Core<S> {
     shelf: S,
     seats: Seats,
     held: Held,

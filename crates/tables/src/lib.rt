@@ -12,8 +12,7 @@
 //     held    modes     for each slot, the mode held on each of 256 granules
 //             counts    for each granule, how many slots hold each mode: agrees with the modes
 //     noted             for each slot, its note on each of 256 granules
-//     kernel  system    the mode system
-//             shelf     the words; a free slot holds nothing and notes nothing
+//     kernel  shelf     the words; a free slot holds nothing and notes nothing
 //
 // Each of these sentences is an invariant of the type. Nothing after the construction takes memory.
 //

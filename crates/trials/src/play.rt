@@ -1,6 +1,6 @@
 // A story played, and written down.
 use crate::story::{Modes, Setting, call, read_setting};
-use anyhow::{Context, Result, anyhow};
+use anyhow::{Result, anyhow, bail};
 use engine::Engine;
 use entries::{Line, Lines};
 use ledger::{Answer, Call};
@@ -16,20 +16,20 @@ use std::fmt::Write;
 // The most calls of one story.
 const MOST: usize = 10000;
 
-// An answer as a story's line has it.
+// An answer as a story's line has it, with the space behind it.
 #[derive(Clone, Copy)]
 struct Shown(Answer);
 
 impl fmt::Display for Shown {
     fn fmt<W: Write>(&self, f: &mut fmt::Formatter<W>) -> fmt::Result {
         match self.0 {
-            Answer::Job(number) => write!(f, "job{number}"),
-            Answer::Told(Outcome::Figures(sum, count)) => write!(f, "read{sum}/{count}"),
-            Answer::Told(Outcome::Average(mean)) => write!(f, "mean{mean}"),
-            Answer::Told(Outcome::Done) => write!(f, "done"),
-            Answer::Waits => write!(f, "waits"),
-            Answer::Head(group, holders) => write!(f, "head{group}/{holders}"),
-            Answer::Refused(refusal) => write!(f, "refused{}", refusal.number()),
+            Answer::Job(number) => write!(f, "job{number} "),
+            Answer::Told(Outcome::Figures(sum, count)) => write!(f, "read{sum}/{count} "),
+            Answer::Told(Outcome::Average(mean)) => write!(f, "mean{mean} "),
+            Answer::Told(Outcome::Done) => write!(f, "done "),
+            Answer::Waits => write!(f, "waits "),
+            Answer::Head(group, holders) => write!(f, "head{group}/{holders} "),
+            Answer::Refused(refusal) => write!(f, "refused{} ", refusal.number()),
         }
     }
 }
@@ -43,10 +43,13 @@ fn play<M: ModeSystem + Drop, S: Shelf + Drop>(
 ) -> Result<String> {
     let mut out = String::new(heap);
     let laid = engine.serve(setting.lay());
-    write!(out, "{} ", Shown(laid))?;
+    write!(out, "{}", Shown(laid))?;
     for entry in calls.take(MOST) {
-        let call = call(entry, setting).context("no such call")?;
-        write!(out, "{} ", Shown(engine.serve(call)))?;
+        // No `context`: its result has room for an error, and would be moved about at every call.
+        let Some(call) = call(entry, setting) else {
+            bail!("no such call");
+        };
+        write!(out, "{}", Shown(engine.serve(call)))?;
     }
     out.push_str("end")?;
     if matches!(laid, Answer::Told(_)) {

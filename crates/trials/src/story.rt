@@ -1,5 +1,5 @@
 // A story read from its line.
-use anyhow::{Context, Result, anyhow};
+use anyhow::{Context, Result, anyhow, bail};
 use entries::Line;
 use entries::cut::cut_at;
 use entries::number::number;
@@ -32,7 +32,10 @@ impl Setting {
 fn numbers(heap: Global, line: &mut Line<'_>, count: u32) -> Result<Vec<u32>> {
     let mut values = Vec::new(heap);
     for _ in 0..count {
-        let value = line.next().and_then(number).context("no such story")?;
+        // No `context`: its result has room for an error, and would be moved about at every number.
+        let Some(value) = line.next().and_then(number) else {
+            bail!("no such story");
+        };
         values.push(value).map_err(|_| anyhow!("no memory"))?;
     }
     Ok(values)

@@ -46,6 +46,6 @@ impl<M: ModeSystem, S: Shelf> Engine<M, S> {
         ensures served { Served M.ModeSystem.meaning (Look granule) (state S.Shelf.words self.now) (state S.Shelf.words self.now) (as_head result) }
     {
         let tree = laid_out(&self.tree)?;
-        self.core.look(tree, granule)
+        self.core.look(&self.system, tree, granule)
     }
 }

@@ -17,8 +17,9 @@ impl<M: ModeSystem, S: Shelf> Engine<M, S> {
         ensures made { state S.Shelf.words result ≡ bare (S.Shelf.words shelf) }
     {
         Engine {
+            system,
             tree: None,
-            core: Core::blank(system, shelf),
+            core: Core::blank(shelf),
         }
     }
 

@@ -20,7 +20,7 @@ impl<M: ModeSystem, S: Shelf> Engine<M, S> {
         ensures shape { InShape operation.action result }
     {
         let tree = laid_out(&self.tree)?;
-        self.core.operate(tree, job, operation)
+        self.core.operate(&self.system, tree, job, operation)
     }
 
     // The operation for which a job waits, tried anew.
@@ -28,7 +28,7 @@ impl<M: ModeSystem, S: Shelf> Engine<M, S> {
         ensures served { Served M.ModeSystem.meaning (Go job) (state S.Shelf.words self.old) (state S.Shelf.words self.new) (as_outcome result) }
     {
         let tree = laid_out(&self.tree)?;
-        self.core.go(tree, job)
+        self.core.go(&self.system, tree, job)
     }
 
     // The sum of the words of the records beneath a granule, and how many records there are. This, `mean` and `write` each take

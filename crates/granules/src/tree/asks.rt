@@ -51,12 +51,18 @@ impl Tree {
         self.node(granule).is_some_and(|n| n.leaf)
     }
 
-    // Whether a granule lies beneath another.
+    // Whether a granule lies beneath another. All lie beneath the root, and none beneath a larger number.
     #[tactic(auto, using(crate::proofs::Kept::climbs))]
     pub fn is_beneath(&self, above: usize, granule: usize) -> bool
         ensures value { result ≡ beneath (table self.now) above granule }
     {
-        granule == above || (granule != 0 && self.is_beneath(above, self.parent(granule)))
+        if above == 0 {
+            true
+        } else if granule > above {
+            self.is_beneath(above, self.parent(granule))
+        } else {
+            granule == above
+        }
     }
 
     // The granules from the root down to one; for a number beyond 255, which is no granule's, the root alone.

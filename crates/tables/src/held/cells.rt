@@ -33,11 +33,13 @@ impl Held {
         self.modes.put(seat, granule, mode);
     }
 
-    // A slot lets go of a granule.
+    // A slot lets go of a granule. Most hold nothing there, and then there is nothing to do.
     fn release(&mut self, seat: Seat, granule: u8)
         ensures rows { self.new.modes.rows ≡ with_cell self.old.modes.rows seat.slot granule 0 }
     {
-        self.put(seat, granule, 0);
+        if self.get(seat, granule) != 0 {
+            self.put(seat, granule, 0);
+        }
     }
 
     // A slot lets go of everything.

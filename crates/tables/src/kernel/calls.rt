@@ -15,7 +15,7 @@ use modes::system::ModeSystem;
 use operations::{Operation, Outcome};
 use shelf::Shelf;
 
-impl<M: ModeSystem, S: Shelf> Core<M, S> {
+impl<S: Shelf> Core<S> {
     // A new job, while fewer than 16 have not ended and fewer than 1,000,000 were opened.
     pub fn open(&mut self) -> Result<u32, Refusal>
         ensures served { (y : Layout) → serve y Open (model S.Shelf.words self.old) ≡ record { left = model S.Shelf.words self.new; said = as_job result } }
@@ -30,8 +30,9 @@ impl<M: ModeSystem, S: Shelf> Core<M, S> {
     }
 
     // An operation of a working job.
-    pub fn operate(
+    pub fn operate<M: ModeSystem>(
         &mut self,
+        system: &M,
         tree: &Tree,
         job: u32,
         operation: Operation,
@@ -42,15 +43,20 @@ impl<M: ModeSystem, S: Shelf> Core<M, S> {
         if !tree.has(operation.granule as usize) {
             return Err(Refusal::NoSuchGranule);
         }
-        Ok(self.try_out(tree, job, operation))
+        Ok(self.try_out(system, tree, job, operation))
     }
 
     // The operation for which a job waits, tried anew.
-    pub fn go(&mut self, tree: &Tree, job: u32) -> Result<Option<Outcome>, Refusal>
+    pub fn go<M: ModeSystem>(
+        &mut self,
+        system: &M,
+        tree: &Tree,
+        job: u32,
+    ) -> Result<Option<Outcome>, Refusal>
         ensures served { serve (layout M.ModeSystem.meaning tree.now) (Go job) (model S.Shelf.words self.old) ≡ record { left = model S.Shelf.words self.new; said = as_outcome result } }
     {
         let operation = must_wait(self.status(job))?;
-        Ok(self.try_out(tree, job, operation))
+        Ok(self.try_out(system, tree, job, operation))
     }
 
     // A wounded job works again, with no operations.
@@ -81,7 +87,12 @@ impl<M: ModeSystem, S: Shelf> Core<M, S> {
     }
 
     // The group mode of a granule, and how many hold one.
-    pub fn look(&self, tree: &Tree, granule: u32) -> Result<(u8, u32), Refusal>
+    pub fn look<M: ModeSystem>(
+        &self,
+        system: &M,
+        tree: &Tree,
+        granule: u32,
+    ) -> Result<(u8, u32), Refusal>
         ensures served { serve (layout M.ModeSystem.meaning tree.now) (Look granule) (model S.Shelf.words self.now) ≡ record { left = model S.Shelf.words self.now; said = as_head result } }
     {
         let granule = granule as usize;
@@ -89,6 +100,6 @@ impl<M: ModeSystem, S: Shelf> Core<M, S> {
             return Err(Refusal::NoSuchGranule);
         }
         // A granule of a tree is below 256, so it fits: `try_from` would add a case that cannot be.
-        Ok(self.head(granule as u8))
+        Ok(self.head(system, granule as u8))
     }
 }

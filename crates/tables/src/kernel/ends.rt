@@ -11,7 +11,7 @@ use crate::slot::Event;
 use ledger::Note;
 use shelf::Shelf;
 
-impl<M, S: Shelf> Core<M, S> {
+impl<S: Shelf> Core<S> {
     // A new job sits down in a free slot; its number.
     pub(super) fn seat(&mut self, seat: Seat) -> u32
         requires vacant { slice_index (numbers_of self.old.seats) seat.slot ≡ 0 }

@@ -11,13 +11,12 @@ use crate::seats::Seats;
 use ledger::Note;
 use shelf::Shelf;
 
-impl<M, S: Shelf> Core<M, S> {
-    // A mode system, a shelf, and no job.
-    pub fn blank(system: M, shelf: S) -> Core<M, S>
+impl<S: Shelf> Core<S> {
+    // A shelf, and no job.
+    pub fn blank(shelf: S) -> Core<S>
         ensures made { words_on S.Shelf.words result ≡ S.Shelf.words shelf }
     {
         Core {
-            system,
             shelf,
             seats: Seats::new(),
             held: Held::new(),

@@ -16,7 +16,7 @@ use crate::slot::Event;
 use ledger::Note;
 use shelf::Shelf;
 
-impl<M, S: Shelf> Core<M, S> {
+impl<S: Shelf> Core<S> {
     // The word of one record taken back by the note of a slot. The shelf alone changes, and it is said of each table by name
     // that it does not: a word for all three would hide them.
     fn take_back_at(&mut self, seat: Seat, place: u8)

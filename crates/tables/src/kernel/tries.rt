@@ -18,9 +18,15 @@ use modes::system::ModeSystem;
 use operations::{Operation, Outcome, carry_out};
 use shelf::Shelf;
 
-impl<M: ModeSystem, S: Shelf> Core<M, S> {
+impl<S: Shelf> Core<S> {
     // A job takes the locks for an operation, and is then working; or it waits with it. Whether it has them.
-    fn attempt(&mut self, tree: &Tree, job: u32, operation: Operation) -> bool
+    fn attempt<M: ModeSystem>(
+        &mut self,
+        system: &M,
+        tree: &Tree,
+        job: u32,
+        operation: Operation,
+    ) -> bool
         requires seated { slot (numbers_of self.old.seats) job < 16 }
         requires opened { is_open (status_of (numbers_of self.old.seats) (states_of self.old.seats) job) ≡ true }
         requires near { operation.granule < 256 }
@@ -34,7 +40,7 @@ impl<M: ModeSystem, S: Shelf> Core<M, S> {
         };
         let path = tree.path(walker.goal);
         let seat = self.seats.seat(job);
-        let complete = self.walk(walker, &path);
+        let complete = self.walk(system, walker, seat, &path);
         self.seats.turn(seat, Event::of_walk(operation, complete));
         complete
     }
@@ -62,13 +68,19 @@ impl<M: ModeSystem, S: Shelf> Core<M, S> {
     }
 
     // A job's operation: carried out if it gets the locks, else it waits. A `then` would hand what `carry` asks to a closure.
-    pub(super) fn try_out(&mut self, tree: &Tree, job: u32, operation: Operation) -> Option<Outcome>
+    pub(super) fn try_out<M: ModeSystem>(
+        &mut self,
+        system: &M,
+        tree: &Tree,
+        job: u32,
+        operation: Operation,
+    ) -> Option<Outcome>
         requires seated { slot (numbers_of self.old.seats) job < 16 }
         requires opened { is_open (status_of (numbers_of self.old.seats) (states_of self.old.seats) job) ≡ true }
         requires near { operation.granule < 256 }
         ensures served { try (layout M.ModeSystem.meaning tree.now) job operation (model S.Shelf.words self.old) ≡ record { left = model S.Shelf.words self.new; said = told (λ o. o) result } }
     {
-        if !self.attempt(tree, job, operation) {
+        if !self.attempt(system, tree, job, operation) {
             return None;
         }
         Some(self.carry(tree, job, operation))

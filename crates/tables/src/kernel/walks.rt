@@ -10,6 +10,7 @@ ghost use Rattle.tables.specs.Steps.{walk_on, after_step};
 
 use super::Core;
 use crate::claim::Claim;
+use crate::seat::Seat;
 use granules::Path;
 use modes::kind::Kind;
 use modes::system::ModeSystem;
@@ -46,33 +47,31 @@ impl Walker {
     }
 }
 
-impl<M: ModeSystem, S: Shelf> Core<M, S> {
+impl<S: Shelf> Core<S> {
     // A job's mode on a granule raised. That it sits in a slot, here and in other clauses, ties it to the seats as they are
     // at the call, and so is no invariant of a type.
-    fn raise(&mut self, job: u32, granule: u8, mode: u8)
-        requires seated { slot (numbers_of self.old.seats) job < 16 }
+    fn raise(&mut self, job: u32, seat: Seat, granule: u8, mode: u8)
+        requires seated { slot (numbers_of self.old.seats) job ≡ seat.slot }
         requires mode { mode < 16 }
         ensures model { model S.Shelf.words self.new ≡ model_hands.with_jobs (raise job granule mode (jobs_of self.old.seats self.old.held)) (model S.Shelf.words self.old) }
         ensures numbers { (numbers_of self.new.seats) ≡ (numbers_of self.old.seats) }
     {
-        let seat = self.seats.seat(job);
         self.held.put(seat, granule, mode);
     }
 
     // One granule of a walk: whoever is younger and in the way is wounded, and the mode is raised unless somebody older
     // is in the way.
-    fn step(&mut self, walker: Walker, granule: u8) -> Step
-        requires { slot (numbers_of self.old.seats) walker.job < 16 }
+    fn step<M: ModeSystem>(&mut self, system: &M, walker: Walker, seat: Seat, granule: u8) -> Step
+        requires { slot (numbers_of self.old.seats) walker.job ≡ seat.slot }
         ensures walk { (xs : List ℕ) → walk_on M.ModeSystem.meaning walker (granule ∷ xs) (model S.Shelf.words self.old) ≡ after_step M.ModeSystem.meaning walker result xs (model S.Shelf.words self.new) }
         ensures numbers { (numbers_of self.new.seats) ≡ (numbers_of self.old.seats) }
     {
-        let seat = self.seats.seat(walker.job);
         let mode = self.held.get(seat, granule);
-        let full = self.system.full(walker.kind);
-        if self.system.join(mode, full) == mode {
+        let full = system.full(walker.kind);
+        if system.join(mode, full) == mode {
             return Step::Covered;
         }
-        let target = walker.target(&self.system, granule, mode);
+        let target = walker.target(system, granule, mode);
         if target == mode {
             return Step::On;
         }
@@ -81,21 +80,27 @@ impl<M: ModeSystem, S: Shelf> Core<M, S> {
             granule,
             target,
         };
-        if self.make_way(claim) {
+        if self.make_way(system, claim) {
             return Step::Stopped;
         }
-        self.raise(walker.job, granule, target);
+        self.raise(walker.job, seat, granule, target);
         Step::On
     }
 
-    // The locks along a path; whether all were had.
-    pub(crate) fn walk(&mut self, walker: Walker, path: &Path) -> bool
-        requires { slot (numbers_of self.old.seats) walker.job < 16 }
+    // The locks along a path; whether all were had. The job's seat is looked for once, before the walk, which moves nobody.
+    pub(crate) fn walk<M: ModeSystem>(
+        &mut self,
+        system: &M,
+        walker: Walker,
+        seat: Seat,
+        path: &Path,
+    ) -> bool
+        requires { slot (numbers_of self.old.seats) walker.job ≡ seat.slot }
         ensures walk { walk_on M.ModeSystem.meaning walker (steps path.now) (model S.Shelf.words self.old) ≡ record { left = model S.Shelf.words self.new; complete = result } }
         ensures numbers { (numbers_of self.new.seats) ≡ (numbers_of self.old.seats) }
     {
         for granule in path.as_slice() {
-            match self.step(walker, *granule) {
+            match self.step(system, walker, seat, *granule) {
                 Step::Covered => return true,
                 Step::Stopped => return false,
                 Step::On => {}

@@ -11,7 +11,7 @@ has_mode :
     (g : _) (c : goal.After-target-target g)
     → c.get-mode.result ≡ cell 0 c.args.self.now.held.modes.rows (slot (numbers_of c.args.self.now.seats) c.args.walker.job) c.args.granule
 has_mode g c =
-    c.get-mode.ensures.value ∙ ap (λ (i : ℕ). cell 0 c.args.self.now.held.modes.rows i c.args.granule) c.seat-seat.ensures.value
+    c.get-mode.ensures.value ∙ ap (λ (i : ℕ). cell 0 c.args.self.now.held.modes.rows i c.args.granule) (sym c.requires)
 
 short :
     (g : _) (c : goal.After-target-target g)
