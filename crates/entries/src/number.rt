@@ -14,7 +14,7 @@ fn read_on(value: u32, byte: u8) -> Option<u32>
     ensures value { result ≡ grown value byte }
 {
     let digit = char::from(byte).to_digit(10)?;
-    value.checked_mul(10)?.checked_add(digit)
+    u32::try_from(u64::from(value) * 10 + u64::from(digit)).ok()
 }
 
 // The number that an entry stands for, if it is one: v exactly if the bytes are the decimal of v.
